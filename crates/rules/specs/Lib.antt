@@ -1,0 +1,17 @@
+pub mod Names
+pub mod Lists
+pub mod State
+pub mod Outputs
+pub mod Gaps
+pub mod Ending
+pub mod Asking
+pub mod Numbering
+pub mod Serving
+pub mod Finishing
+pub mod Binding
+pub mod Peer
+pub mod Local
+pub mod Deadlines
+pub mod Queries
+pub mod Answers
+pub mod Calls
