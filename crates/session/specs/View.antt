@@ -1,0 +1,66 @@
+-- What a session and a step stand for in the rule book, and when a session is in order.
+use Prim.Native.Nat.{ℕ, _≤_}
+use mathlib.Core.Path.{_≡_}
+use mathlib.Core.Bool.{Bool}
+use Rattle.types.specs.Base.{if_then_else_}
+use Rattle.types.specs.Flows.{isSequenced}
+use Rattle.rules.specs.Names.{FlowType, MaybeSeq, Binding, Bound, Answer}
+use Rattle.rules.specs.Names.seq
+use Rattle.rules.specs.State.{Sess, sess, Queue, queued, Did}
+use Rattle.rules.specs.Binding.{firstNumber}
+use Rattle.rings.specs.View.{listsOf, GapsWf}
+use Rattle.queue.specs.View.{queueOf, OutsWf}
+use Rattle.session.specs.declared.Session.{Session}
+use Rattle.session.specs.declared.Step.{Step}
+use Rattle.session.specs.declared.numbering.Counted.{Counted}
+use Rattle.rules.specs.Numbering.{Counted as CountedRule}
+
+-- every field, with lists for rings
+abbrev pub view : Session → Sess
+view s =
+    sess (s .id) (s .«local_flow») (s .«remote_flow») (s .config) (s .«outbound_next») (s .«inbound_next» .it) (s .«start_pending») (listsOf (s .gaps)) (s .outstanding .it) (s .replay .it) (s .«awaiting_resume»)
+    (s .provider .it) (s .«peer_finished» .it) (s .finalized)
+
+-- ring positions and counts within their room, and few enough gaps allowed that one more has a place
+pub record SessWf (s : Session) : Type 0 where
+  pub gaps : GapsWf (s .gaps)
+  pub pending : s .config .«max_pending_gaps» ≤ 64
+
+-- r is in order, and stands for m
+pub record SessIs (r : Session) (m : Sess) : Type 0 where
+  pub wf : SessWf r
+  pub is : view r ≡ m
+
+-- what a step leaves, the queue whole
+pub record After : Type 0 where
+  pub session : Sess
+  pub binding : Binding
+  pub queue : Queue
+  pub bound : Bound
+  pub answer : Answer
+
+abbrev pub viewStep : Step → After
+viewStep r = record { session = view (r .session); binding = r .binding; queue = queueOf (r .queue); bound = r .bound; answer = r .answer .it }
+
+-- what d does, its outputs added to q
+abbrev pub after : Queue → Did → After
+after q d = record { session = d .session; binding = d .binding; queue = queued q (d .outs); bound = d .bound; answer = d .answer }
+
+-- r is in order, and is what d does with a queue that stands for q
+pub record StepIs (r : Step) (q : Queue) (d : Did) : Type 0 where
+  pub session : SessWf (r .session)
+  pub queue : OutsWf (r .queue)
+  pub is : viewStep r ≡ after q d
+
+abbrev pub withAnswer : Answer → Step → Step
+withAnswer a r = record { session = r .session; binding = r .binding; queue = r .queue; bound = r .bound; answer = record { it = a } }
+
+abbrev pub firstOf : FlowType → MaybeSeq
+firstOf f = if isSequenced f then seq.Some firstNumber else seq.None
+
+abbrev pub viewCounted : Counted → CountedRule
+viewCounted k = record { session = view (k .session); complete = k .complete }
+
+pub record CountedIs (r : Counted) (m : CountedRule) : Type 0 where
+  pub wf : SessWf (r .session)
+  pub is : viewCounted r ≡ m
