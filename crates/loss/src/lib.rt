@@ -1,0 +1,1 @@
+//! Demand 3, "loss can't renumber", over the rule book: specs/ has the statement and its proof.
