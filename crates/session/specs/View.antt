@@ -4,8 +4,10 @@ use mathlib.Core.Path.{_≡_}
 use mathlib.Core.Bool.{Bool}
 use Rattle.types.specs.Base.{if_then_else_}
 use Rattle.types.specs.Flows.{isSequenced}
-use Rattle.rules.specs.Names.{FlowType, MaybeSeq, Binding, Bound, Answer}
+use Rattle.rules.specs.Names.{FlowType, MaybeSeq, PeerMessage, Binding, Bound, Answer}
 use Rattle.rules.specs.Names.seq
+use Rattle.rules.specs.Names.answer
+use Rattle.rules.specs.Peer.{isDelivery}
 use Rattle.rules.specs.State.{Sess, sess, Queue, queued, Did}
 use Rattle.rules.specs.Binding.{firstNumber}
 use Rattle.rings.specs.View.{listsOf, GapsWf}
@@ -13,7 +15,7 @@ use Rattle.queue.specs.View.{queueOf, OutsWf}
 use Rattle.session.specs.declared.Session.{Session}
 use Rattle.session.specs.declared.Step.{Step}
 use Rattle.session.specs.declared.numbering.Counted.{Counted}
-use Rattle.rules.specs.Numbering.{Counted as CountedRule}
+use Rattle.rules.specs.Numbering.{discard, Counted as CountedRule}
 
 -- every field, with lists for rings
 abbrev pub view : Session → Sess
@@ -64,3 +66,7 @@ viewCounted k = record { session = view (k .session); complete = k .complete }
 pub record CountedIs (r : Counted) (m : CountedRule) : Type 0 where
   pub wf : SessWf (r .session)
   pub is : viewCounted r ≡ m
+
+-- what a closing binding answers to a message
+abbrev pub closingAnswer : PeerMessage → Answer
+closingAnswer m = if isDelivery m then discard else answer.Ok

@@ -28,8 +28,11 @@ use types::parts::ReplaySlot;
 use types::parts::SeqSlot;
 
 pub mod asking;
+pub mod bind;
 pub mod ending;
+pub mod finishing;
 pub mod numbering;
+pub mod queries;
 
 /// The logical session: identity, flows, configuration and sequence state (FIXP 3.4.3).
 pub struct Session {

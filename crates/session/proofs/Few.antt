@@ -1,0 +1,105 @@
+-- How many outputs a step adds that leaves the binding standing: few enough that another step has room after it.
+use Prim.Native.Nat.{ℕ, _+_, _-_, _≤_, _^_}
+use mathlib.Core.Path.{_≡_, refl}
+use mathlib.Core.Bool.{Bool, true, false, not, _&&_, false≢true}
+use mathlib.Core.List.{List, [], _∷_, _++_}
+use native.Mathlib.Omega.{arith}
+use lib.ListN.{length, length-append}
+use lib.Dec.{ltb, leb, eqb}
+use Rattle.types.specs.Base.{if_then_else_, allOnes}
+use Rattle.types.specs.Flows.{isSequenced, isRecoverable}
+use Rattle.types.specs.States.{isStay, isEstablished, withKeepalive}
+use Rattle.rules.specs.Names.{SeqNum, Nanotime, Instant, MaybeSeq, FlowType, TerminationCode, NotApplied, MaybeGap, Output, Binding}
+use Rattle.rules.specs.Names.seq
+use Rattle.rules.specs.Names.flow
+use Rattle.rules.specs.Names.gap
+use Rattle.rules.specs.Lists.{frontOf}
+use Rattle.rules.specs.State.{Sess, Did, saying, withInbound, withGaps}
+use Rattle.rules.specs.Gaps.{Kept, recordGap, holdRefusedGap}
+use Rattle.rules.specs.Ending.{fail, violation}
+use Rattle.rules.specs.Asking.{isOutstanding, ask, askFor, requestMissing}
+use Rattle.rules.specs.Numbering.{outboundExhausted, allocateOutbound, sendApplicationOf, notAppliedNumbered, notAppliedOn, sendNotApplied, gapHeld, gapRecorded, gapReported, gapOn, onGap, pastFinished, stopReplay, announcedTo, announced, onNextSeq}
+use Rattle.session.proofs.Laws.{allocate-few}
+
+-- at most k outputs, if the binding stands
+pub record Few (k : ℕ) (d : Did) : Type 0 where
+  pub few : isStay (d .bound) ≡ true → length (d .outs) ≤ k
+
+pub by-if : (k : ℕ) (t : Bool) (a b : Did) → Few k a → Few k b → Few k (if t then a else b)
+by-if k true a b p q = p
+by-if k false a b p q = q
+
+pub saying-few : (k : ℕ) (o : Output) (d : Did) → Few k d → Few (k + 1) (saying (o ∷ []) d)
+unfolding saying
+saying-few k o d p = record { few = λ e. let h = p .few e in omega arith }
+
+pub more : (j k : ℕ) (d : Did) → j ≤ k → Few j d → Few k d
+more j k d h p = record { few = λ e. let g = p .few e in omega arith }
+
+pub fail-few : (k : ℕ) (c : TerminationCode) (n : ℕ) (s : Sess) (b : Binding) → Few k (fail c n s b)
+unfolding fail
+fail-few k c n s b = record { few = λ e. absurd (false≢true e) }
+
+pub violation-few : (k n : ℕ) (s : Sess) (b : Binding) → Few k (violation n s b)
+unfolding violation fail saying
+violation-few k n s b = record { few = λ e. absurd (false≢true e) }
+
+pub request-few : (now : Instant) (stamp : Nanotime) (s : Sess) (b : Binding) → Few 1 (requestMissing now stamp s b)
+unfolding requestMissing ask
+request-few now stamp s b =
+    by-if 1 (isEstablished (b .state .it) && isRecoverable (s .remote-flow) && not (isOutstanding (s .outstanding))) _ _ (go (frontOf (s .gaps .missing))) (record { few = λ e. omega arith })
+  where
+    go : (g : MaybeGap) → Few 1 (askFor g now stamp s b)
+    go gap.None = record { few = λ e. omega arith }
+    go (gap.Some g) =
+        by-if 1 (leb (g .end .0) (g .from .0)) _ _ (record { few = λ e. omega arith })
+        (by-if 1 (eqb (stamp .0) allOnes) _ _ (fail-few 1 _ _ s b) (record { few = λ e. omega arith }))
+
+pub not-applied-few : (now : Instant) (m : NotApplied) (s : Sess) (b : Binding) → Few 2 (sendNotApplied now m s b)
+unfolding sendNotApplied saying
+not-applied-few now m s b = by-if 2 (not (isEstablished (b .state .it))) _ _ (record { few = λ e. omega arith }) (go (s .local-flow))
+  where
+    numbered : Few 2 (notAppliedNumbered now m s b)
+    numbered =
+        by-if 2 (outboundExhausted s) _ _ (fail-few 2 _ _ s b)
+        (record { few = λ e. let h = allocate-few s b in let l = length-append (allocateOutbound s b .outs) (sendApplicationOf (seq.Some (s .outbound-next)) m ∷ []) in omega (arith, l) })
+
+    go : (f : FlowType) → Few 2 (notAppliedOn f now m s b)
+    go flow.None = record { few = λ e. omega arith }
+    go flow.Unsequenced = record { few = λ e. omega arith }
+    go flow.Recoverable = numbered
+    go flow.Idempotent = numbered
+
+pub gap-few : (now : Instant) (stamp : Nanotime) (from next : SeqNum) (s : Sess) (b : Binding) → Few 3 (onGap now stamp from next s b)
+unfolding onGap gapRecorded gapHeld gapReported
+gap-few now stamp from next s b = saying-few 2 _ _ (go (s .remote-flow))
+  where
+    go : (f : FlowType) → Few 2 (gapOn f now stamp from next s b)
+    go flow.Recoverable =
+        let k = recordGap (s .config .«max_pending_gaps») from next (s .gaps) in
+        let h = holdRefusedGap (s .config .«max_pending_gaps») from next (k .gaps) in
+        by-if 2 (k .ok) _ _ (more 1 2 _ (omega arith) (request-few now stamp (withInbound (seq.Some next) (withGaps (k .gaps) s)) b))
+        (by-if 2 (h .ok) _ _ (violation-few 2 18 (withInbound (seq.Some next) (withGaps (h .gaps) s)) b) (violation-few 2 18 (withGaps (h .gaps) s) b))
+    go flow.Idempotent =
+        by-if 2 (leb (2 ^ 32) (next .0 - from .0)) _ _ (violation-few 2 19 (withInbound (seq.Some next) s) b) (not-applied-few now _ (withInbound (seq.Some next) s) b)
+    go flow.Unsequenced = record { few = λ e. omega arith }
+    go flow.None = record { few = λ e. omega arith }
+
+pub announced-few : (now : Instant) (stamp : Nanotime) (next : SeqNum) (s : Sess) (b : Binding) → Few 3 (announced now stamp next s b)
+unfolding announced
+announced-few now stamp next s b = by-if 3 (s .start-pending) _ _ (record { few = λ e. omega arith }) (go (s .inbound-next))
+  where
+    go : (n : MaybeSeq) → Few 3 (announcedTo n now stamp next s b)
+    go seq.None = record { few = λ e. omega arith }
+    go (seq.Some n) =
+        by-if 3 (ltb (next .0) (n .0)) _ _ (violation-few 3 17 s b)
+        (by-if 3 (eqb (next .0) (n .0)) _ _ (record { few = λ e. omega arith })
+        (by-if 3 (ltb (s .config .«max_gap_len») (next .0 - n .0)) _ _ (violation-few 3 16 s b) (gap-few now stamp n next s b)))
+
+-- an announcement that leaves the binding standing adds at most three outputs
+pub next-few : (now : Instant) (stamp : Nanotime) (next : SeqNum) (s : Sess) (b : Binding) → Few 3 (onNextSeq now stamp next s b)
+unfolding onNextSeq
+next-few now stamp next s b =
+    by-if 3 (not (isSequenced (s .remote-flow))) _ _ (violation-few 3 13 s b)
+    (by-if 3 (eqb (next .0) 0) _ _ (violation-few 3 14 s b)
+    (by-if 3 (pastFinished (s .peer-finished) (next .0)) _ _ (violation-few 3 15 s b) (announced-few now stamp next (stopReplay now s) b)))
