@@ -1,0 +1,115 @@
+-- `trace::text::Line::answer` meets its contract: each case is a word, with its numbers after colons. Assumes nothing.
+use native.Mathlib.Omega.{arith}
+use Rattle.trace.specs.Ascii.{ascii}
+use Rattle.trace.proofs.Lines.{adds-then, adds-less, adds-as, colons-two}
+use borrow.Author.Needs.{needs}
+use Rattle.trace.proofs.text.Line.answer.Statement.{statement}
+use Rattle.trace.proofs.text.Line.answer.Tie as tie
+
+enum-told : tie.Need-enum-told
+enum-told c = search needs
+
+slice-aggregate-word : tie.Need-slice-aggregate-word
+slice-aggregate-word c = search needs
+
+word-requires : tie.Need-word-requires
+word-requires c κs = search needs
+
+enum-known-answer : tie.Need-enum-known-answer
+enum-known-answer c = search needs
+
+delivery-requires : tie.Need-delivery-requires
+delivery-requires c κs = search needs
+
+enum-known-answer-2 : tie.Need-enum-known-answer-2
+enum-known-answer-2 c = search needs
+
+slice-aggregate-word-2 : tie.Need-slice-aggregate-word-2
+slice-aggregate-word-2 c = search needs
+
+word-requires-2 : tie.Need-word-requires-2
+word-requires-2 c κs = search needs
+
+maybe-colon-requires : tie.Need-maybe-colon-requires
+maybe-colon-requires c κs = search needs
+
+enum-known-answer-3 : tie.Need-enum-known-answer-3
+enum-known-answer-3 c = search needs
+
+slice-aggregate-word-3 : tie.Need-slice-aggregate-word-3
+slice-aggregate-word-3 c = search needs
+
+word-requires-3 : tie.Need-word-requires-3
+word-requires-3 c κs = search needs
+
+colon-requires : tie.Need-colon-requires
+colon-requires c κs = search needs
+
+wide-requires : tie.Need-wide-requires
+wide-requires c κs = search needs
+
+colon-requires-2 : tie.Need-colon-requires-2
+colon-requires-2 c κs = search needs
+
+enum-known-answer-4 : tie.Need-enum-known-answer-4
+enum-known-answer-4 c = search needs
+
+slice-aggregate-word-4 : tie.Need-slice-aggregate-word-4
+slice-aggregate-word-4 c = search needs
+
+word-requires-4 : tie.Need-word-requires-4
+word-requires-4 c κs = search needs
+
+refusal-number-requires : tie.Need-refusal-number-requires
+refusal-number-requires c κs = search needs
+
+colon-requires-3 : tie.Need-colon-requires-3
+colon-requires-3 c κs = search needs
+
+returns : tie.Need-returns
+returns c = rw (c .before .before .enum-told .given .1) (adds-less 47 (omega arith) (c .word .ensures))
+
+returns-2 : tie.Need-returns-2
+returns-2 c = rw (c .before .before .answer .given .1) (adds-less 47 (omega arith) (c .delivery .ensures))
+
+returns-3 : tie.Need-returns-3
+returns-3 c = rw (c .before .before .before .before .answer2 .given .1) (adds-less 47 (omega arith) (adds-then (c .before .word2 .ensures) (c .maybe-colon .ensures)))
+
+returns-4 : tie.Need-returns-4
+returns-4 c =
+    let b = c .before .before .before .before .before .before .answer3 .given .0 .0 in
+    rw (c .before .before .before .before .before .before .answer3 .given .1, ← c .before .wide .ensures)
+    (adds-as (colons-two (ascii "batch") (b .from .0) (c .before .wide .result)) (adds-then (adds-then (c .before .before .before .word3 .ensures) (c .before .before .colon .ensures)) (c .colon2 .ensures)))
+
+returns-5 : tie.Need-returns-5
+returns-5 c = rw (c .before .before .before .before .before .answer4 .given .1, ← c .before .refusal-number .ensures) (adds-less 47 (omega arith) (adds-then (c .before .before .word4 .ensures) (c .colon3 .ensures)))
+
+pub answer-spec : {M : Type 1} → statement M
+answer-spec =
+    tie.close
+    (tie.spec
+    enum-told
+    slice-aggregate-word
+    word-requires
+    enum-known-answer
+    delivery-requires
+    enum-known-answer-2
+    slice-aggregate-word-2
+    word-requires-2
+    maybe-colon-requires
+    enum-known-answer-3
+    slice-aggregate-word-3
+    word-requires-3
+    colon-requires
+    wide-requires
+    colon-requires-2
+    enum-known-answer-4
+    slice-aggregate-word-4
+    word-requires-4
+    refusal-number-requires
+    colon-requires-3
+    returns
+    returns-2
+    returns-3
+    returns-4
+    returns-5)

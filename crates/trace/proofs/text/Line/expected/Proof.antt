@@ -1,0 +1,39 @@
+-- `trace::text::Line::expected` meets its contract: the number, or `-`. Assumes nothing.
+use native.Mathlib.Omega.{arith}
+use Rattle.trace.proofs.Lines.{adds-less}
+use borrow.Author.Needs.{needs}
+use Rattle.trace.proofs.text.Line.expected.Statement.{statement}
+use Rattle.trace.proofs.text.Line.expected.Tie as tie
+
+enum-known-expected : tie.Need-enum-known-expected
+enum-known-expected c = search needs
+
+number-requires : tie.Need-number-requires
+number-requires c κs = search needs
+
+enum-told : tie.Need-enum-told
+enum-told c = search needs
+
+slice-aggregate-word : tie.Need-slice-aggregate-word
+slice-aggregate-word c = search needs
+
+word-requires : tie.Need-word-requires
+word-requires c κs = search needs
+
+returns : tie.Need-returns
+returns c = rw (c .before .before .expected .given .1) (c .number .ensures)
+
+returns-2 : tie.Need-returns-2
+returns-2 c = rw (c .before .before .enum-told .given .1) (adds-less 20 (omega arith) (c .word .ensures))
+
+pub expected-spec : {M : Type 1} → statement M
+expected-spec =
+    tie.close
+    (tie.spec
+    enum-known-expected
+    number-requires
+    enum-told
+    slice-aggregate-word
+    word-requires
+    returns
+    returns-2)
