@@ -1,24 +1,33 @@
 -- How many outputs a step adds that leaves the binding standing: few enough that another step has room after it.
 use Prim.Native.Nat.{ℕ, _+_, _-_, _≤_, _^_}
 use mathlib.Core.Path.{_≡_, refl}
-use mathlib.Core.Bool.{Bool, true, false, not, _&&_, false≢true}
+use mathlib.Core.Bool.{Bool, true, false, not, _&&_, _||_, false≢true}
 use mathlib.Core.List.{List, [], _∷_, _++_}
 use native.Mathlib.Omega.{arith}
 use lib.ListN.{length, length-append}
 use lib.Dec.{ltb, leb, eqb}
 use Rattle.types.specs.Base.{if_then_else_, allOnes}
 use Rattle.types.specs.Flows.{isSequenced, isRecoverable}
-use Rattle.types.specs.States.{isStay, isEstablished, withKeepalive}
-use Rattle.rules.specs.Names.{SeqNum, Nanotime, Instant, MaybeSeq, FlowType, TerminationCode, NotApplied, MaybeGap, Output, Binding}
+use Rattle.types.specs.States.{isStay, isEstablished, isClosing, withReceived}
+use Rattle.rules.specs.Names.{SeqNum, Nanotime, Instant, MaybeSeq, FlowType, TerminationCode, NotApplied, MaybeGap, MaybeReplay, MaybePeerFinished, Output, Binding}
 use Rattle.rules.specs.Names.seq
 use Rattle.rules.specs.Names.flow
 use Rattle.rules.specs.Names.gap
-use Rattle.rules.specs.Lists.{frontOf}
-use Rattle.rules.specs.State.{Sess, Did, saying, withInbound, withGaps}
-use Rattle.rules.specs.Gaps.{Kept, recordGap, holdRefusedGap}
+use Rattle.rules.specs.Names.code
+use Rattle.rules.specs.Names.replay
+use Rattle.rules.specs.Names.finished
+use Rattle.rules.specs.Lists.{isNil, frontOf}
+use Rattle.rules.specs.State.{Sess, Did, saying, answering, withInbound, withStart, withGaps, withReplay}
+use Rattle.rules.specs.Outputs.{closeTransport}
+use Rattle.rules.specs.Gaps.{Kept, recordGap, holdRefusedGap, receivedInOverflow}
 use Rattle.rules.specs.Ending.{fail, violation}
-use Rattle.rules.specs.Asking.{isOutstanding, ask, askFor, requestMissing}
-use Rattle.rules.specs.Numbering.{outboundExhausted, allocateOutbound, sendApplicationOf, notAppliedNumbered, notAppliedOn, sendNotApplied, gapHeld, gapRecorded, gapReported, gapOn, onGap, pastFinished, stopReplay, announcedTo, announced, onNextSeq}
+use Rattle.rules.specs.Asking.{isOutstanding, ask, askFor, requestMissing, finishAt, maybeFinishReceiving, recovered, completeOutstanding}
+use Rattle.rules.specs.Numbering.{outboundExhausted, allocateOutbound, sendApplicationOf, notAppliedNumbered, notAppliedOn, sendNotApplied, gapHeld, gapRecorded, gapReported, gapOn, onGap, pastFinished, stopReplay, announcedTo, announced, onNextSeq, discard, replayAfter, Counted, countDelivered, completeIf, replayedCounted, onReplayed, numberedAs, numberLive, liveOn, isPeerFinished, onLive, arrivedIn, onApplication}
+use Rattle.rules.specs.Names.{Outstanding, MaybeOutstanding, RetransmitStallPolicy}
+use Rattle.rules.specs.Names.outstanding
+use Rattle.rules.specs.Names.policy
+use Rattle.rules.specs.Asking.{reRequest}
+use Rattle.rules.specs.Deadlines.{stallDeadline, isDue, waitOut, stallBy, onStall, stallOf, stallIfDue}
 use Rattle.session.proofs.Laws.{allocate-few}
 
 -- at most k outputs, if the binding stands
@@ -103,3 +112,108 @@ next-few now stamp next s b =
     by-if 3 (not (isSequenced (s .remote-flow))) _ _ (violation-few 3 13 s b)
     (by-if 3 (eqb (next .0) 0) _ _ (violation-few 3 14 s b)
     (by-if 3 (pastFinished (s .peer-finished) (next .0)) _ _ (violation-few 3 15 s b) (announced-few now stamp next (stopReplay now s) b)))
+
+-- ---- at most k outputs, whether the binding stands or not
+pub record Most (k : ℕ) (d : Did) : Type 0 where
+  pub most : length (d .outs) ≤ k
+
+most-if : (k : ℕ) (t : Bool) (a b : Did) → Most k a → Most k b → Most k (if t then a else b)
+most-if k true a b p q = p
+most-if k false a b p q = q
+
+fail-most : (c : TerminationCode) (n : ℕ) (s : Sess) (b : Binding) → Most 3 (fail c n s b)
+unfolding fail
+fail-most c n s b = record { most = go (isEstablished (b .state .it)) _ _ }
+  where
+    go : (t : Bool) (o p : Output) → length (if t then o ∷ p ∷ closeTransport ∷ [] else closeTransport ∷ []) ≤ 3
+    go true o p = omega arith
+    go false o p = omega arith
+
+violation-most : (n : ℕ) (s : Sess) (b : Binding) → Most 4 (violation n s b)
+unfolding violation saying
+violation-most n s b = record { most = let h = fail-most code.UnspecifiedError n s b .most in omega arith }
+
+request-most : (now : Instant) (stamp : Nanotime) (s : Sess) (b : Binding) → Most 3 (requestMissing now stamp s b)
+unfolding requestMissing ask
+request-most now stamp s b =
+    most-if 3 (isEstablished (b .state .it) && isRecoverable (s .remote-flow) && not (isOutstanding (s .outstanding))) _ _ (go (frontOf (s .gaps .missing))) (record { most = omega arith })
+  where
+    go : (g : MaybeGap) → Most 3 (askFor g now stamp s b)
+    go gap.None = record { most = omega arith }
+    go (gap.Some g) =
+        most-if 3 (leb (g .end .0) (g .from .0)) _ _ (record { most = omega arith })
+        (most-if 3 (eqb (stamp .0) allOnes) _ _ (fail-most code.UnspecifiedError 20 s b) (record { most = omega arith }))
+
+finish-most : (s : Sess) (b : Binding) → Most 1 (maybeFinishReceiving s b)
+unfolding maybeFinishReceiving
+finish-most s b = go (s .peer-finished)
+  where
+    go : (f : MaybePeerFinished) → Most 1 (finishAt f s b)
+    go finished.None = record { most = omega arith }
+    go (finished.Some f) =
+        most-if 1 (f .«receiving_sent» || not (isEstablished (b .state .it)) || not (isNil (s .gaps .missing)) || isOutstanding (s .outstanding)) _ _ (record { most = omega arith }) (record { most = omega arith })
+
+recovered-most : (now : Instant) (stamp : Nanotime) (s : Sess) (b : Binding) → Most 3 (recovered now stamp s b)
+unfolding recovered saying
+recovered-most now stamp s b =
+    most-if 3 (isNil (s .gaps .missing)) _ _ (record { most = let h = finish-most s b .most in omega arith }) (request-most now stamp s b)
+
+complete-most : (t : Bool) (now : Instant) (stamp : Nanotime) (s : Sess) (b : Binding) → Most 3 (completeIf t now stamp s b)
+unfolding completeIf completeOutstanding
+complete-most t now stamp s b = most-if 3 t _ _ (recovered-most now stamp _ b) (record { most = omega arith })
+
+-- an application message adds at most four outputs
+pub application-most : (now : Instant) (stamp : Nanotime) (s : Sess) (b : Binding) → Most 4 (onApplication now stamp s b)
+unfolding onApplication onLive numberLive onReplayed replayedCounted answering
+application-most now stamp s b = most-if 4 (isClosing (b .state .it)) _ _ (record { most = omega arith }) (go (s .replay))
+  where
+    c : Binding
+    c = withReceived now b
+
+    discarded : (n : ℕ) (t : Sess) → Most 4 (answering discard (violation n t c))
+    discarded n t = record { most = violation-most n t c .most }
+
+    numbered : (x : MaybeSeq) (t : Sess) → Most 4 (numberedAs x t c)
+    numbered seq.None t = discarded 11 t
+    numbered (seq.Some n) t = most-if 4 (eqb (n .0) allOnes) _ _ (discarded 12 t) (record { most = omega arith })
+
+    live : (f : FlowType) → Most 4 (liveOn f s c)
+    live flow.None = discarded 9 s
+    live flow.Unsequenced = record { most = omega arith }
+    live flow.Recoverable = most-if 4 (s .awaiting-resume) _ _ (discarded 10 s) (numbered (s .inbound-next) (withStart false s))
+    live flow.Idempotent = most-if 4 (s .awaiting-resume) _ _ (discarded 10 s) (numbered (s .inbound-next) (withStart false s))
+
+    counted : (k : Counted) (n : SeqNum) → Most 4 (replayedCounted now stamp n k c)
+    counted k n =
+        let seen = receivedInOverflow n (k .session .gaps) in
+        let h = complete-most (k .complete) now stamp (withGaps (seen .gaps) (k .session)) c .most in
+        record { most = omega arith }
+
+    go : (r : MaybeReplay) → Most 4 (arrivedIn r now stamp s c)
+    go replay.None = most-if 4 (isPeerFinished (s .peer-finished)) _ _ (discarded 8 s) (live (s .remote-flow))
+    go (replay.Some r) =
+        most-if 4 (eqb (r .next .0) allOnes) _ _ (discarded 7 s) (counted (countDelivered now (leb (r .remaining) 1) (withReplay (replayAfter r) s)) (r .next))
+
+-- ---- a stall
+re-request-few : (now : Instant) (stamp : Nanotime) (o : Outstanding) (s : Sess) (b : Binding) → Few 1 (reRequest now stamp o s b)
+unfolding reRequest
+re-request-few now stamp o s b = request-few now stamp _ b
+
+wait-few : (o : Outstanding) (s : Sess) (b : Binding) → Few 1 (waitOut o s b)
+unfolding waitOut
+wait-few o s b = record { few = λ e. omega arith }
+
+stall-by-few : (p : RetransmitStallPolicy) (now : Instant) (stamp : Nanotime) (o : Outstanding) (s : Sess) (b : Binding) → Few 1 (stallBy p now stamp o s b)
+stall-by-few policy.Terminate now stamp o s b = fail-few 1 _ _ s b
+stall-by-few policy.ReRequestAfterContextSwitch now stamp o s b = by-if 1 (o .interrupted) _ _ (re-request-few now stamp o s b) (wait-few o s b)
+stall-by-few policy.ReRequestAfterBatch now stamp o s b = by-if 1 (o .interrupted || o .«batch_complete») _ _ (re-request-few now stamp o s b) (wait-few o s b)
+stall-by-few policy.EventOnly now stamp o s b = wait-few o s b
+
+-- a stall that leaves the binding standing adds at most two outputs
+pub stall-few : (now : Instant) (stamp : Nanotime) (s : Sess) (b : Binding) → Few 2 (stallIfDue now stamp s b)
+unfolding stallIfDue onStall
+stall-few now stamp s b = by-if 2 (isDue (stallDeadline s) now) _ _ (go (s .outstanding)) (record { few = λ e. omega arith })
+  where
+    go : (m : MaybeOutstanding) → Few 2 (stallOf m now stamp s b)
+    go outstanding.None = record { few = λ e. omega arith }
+    go (outstanding.Some o) = saying-few 1 _ _ (stall-by-few (s .config .«retransmit_stall_policy») now stamp o s b)

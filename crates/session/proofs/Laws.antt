@@ -21,6 +21,13 @@ use Rattle.session.specs.View.{view, SessWf, StepIs, After, after, withA
 use Rattle.session.specs.declared.Session.{Session}
 use Rattle.session.specs.declared.Step.{Step}
 use Rattle.queue.specs.declared.Outputs.{Outputs}
+use borrow.Author.Tests.{le-leb, lt-leb, leb-true, leb-false}
+use lib.Dec.{leb}
+use Rattle.types.specs.Base.{allOnes, deadlineAt}
+use Rattle.types.specs.States.{withKeepalive}
+use Rattle.rules.specs.Names.{Instant}
+use Rattle.rules.specs.Names.instant
+use Rattle.rules.specs.Local.{keptAlive}
 
 -- ---- tests: what a method answered, and the branch that was taken
 pub fails : {t u : Bool} → t ≡ u → not t ≡ true → u ≡ false
@@ -105,3 +112,29 @@ allocate-few s b = go (b .«in_sequence»)
     go : (t : Bool) → length (if t then [] else (send (message.Sequence (record { «next_seq_no» = s .outbound-next })) ∷ [])) ≤ 1
     go true = omega arith
     go false = omega arith
+
+-- an answered step whose keepalive starts anew
+pub kept-alive : (r t : Step) (q : Queue) (d : Did) (now : Instant) (a : Answer) → StepIs r q d → d .bound ≡ bound.Stay → StepIs t (queueOf (r .queue)) (did (view (r .session)) (withKeepalive now (r .binding)) [] bound.Stay a) → StepIs t q (answering a (keptAlive now d))
+unfolding answering
+kept-alive r t q d now a h u g =
+    record {
+      session = g .session;
+      queue = g .queue;
+      is =
+          g .is
+          ∙ (λ i. record { session = h .is i .session; binding = withKeepalive now (h .is i .binding); queue = (queued-none (queueOf (r .queue)) ∙ ap (λ (x : After). x .queue) (h .is)) i; bound = sym u i; answer = a });
+    }
+
+-- ---- numbers
+-- an end compared by the difference
+pub leb-moved : (a b d : ℕ) → a ≤ b → leb d (b - a) ≡ leb (a + d) b
+leb-moved a b d h = go (leb (a + d) b) refl
+  where
+    go : (t : Bool) → leb (a + d) b ≡ t → leb d (b - a) ≡ leb (a + d) b
+    go true e = le-leb d (b - a) (omega (arith, leb-true (a + d) b e)) ∙ sym e
+    go false e = lt-leb d (b - a) (omega (arith, leb-false (a + d) b e, h)) ∙ sym e
+
+-- an instant past the largest is no deadline
+pub deadline-over : (n : ℕ) → allOnes < n → instant.None ≡ deadlineAt n
+unfolding deadlineAt
+deadline-over n h = rw (lt-leb n allOnes h)

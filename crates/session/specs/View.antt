@@ -16,6 +16,12 @@ use Rattle.session.specs.declared.Session.{Session}
 use Rattle.session.specs.declared.Step.{Step}
 use Rattle.session.specs.declared.numbering.Counted.{Counted}
 use Rattle.rules.specs.Numbering.{discard, Counted as CountedRule}
+use Rattle.rules.specs.Names.{Refusal, Instant}
+use Rattle.rules.specs.Names.bound
+use Rattle.rules.specs.State.{answering}
+use Rattle.rules.specs.Numbering.{allocateOutbound}
+use Rattle.rules.specs.Local.{Refused, passes, refuses, keptAlive}
+use Rattle.queue.specs.declared.Outputs.{Outputs}
 
 -- every field, with lists for rings
 abbrev pub view : Session → Sess
@@ -70,3 +76,17 @@ pub record CountedIs (r : Counted) (m : CountedRule) : Type 0 where
 -- what a closing binding answers to a message
 abbrev pub closingAnswer : PeerMessage → Answer
 closingAnswer m = if isDelivery m then discard else answer.Ok
+
+-- ---- local calls
+-- a refused call: session, binding and queue exactly as they were
+abbrev pub refusedStep : Session → Binding → Outputs → Refusal → Step
+refusedStep s b q x = record { session = s; binding = b; queue = q; bound = bound.Stay; answer = record { it = answer.Refused x } }
+
+-- r is what a local call gives that is refused so, or passes and does d
+abbrev pub LocalIs : Step → Session → Binding → Outputs → Refused → Did → Type 0
+LocalIs r s b q passes d = StepIs r (queueOf q) d
+LocalIs r s b q (refuses x) d = r ≡ refusedStep s b q x
+
+-- an application message with this side's next number
+abbrev pub sentNumbered : Instant → Sess → Binding → Did
+sentNumbered now s b = answering (answer.Sent (seq.Some (s .outbound-next))) (keptAlive now (allocateOutbound s b))

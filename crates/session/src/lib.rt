@@ -29,10 +29,14 @@ use types::parts::SeqSlot;
 
 pub mod asking;
 pub mod bind;
+pub mod deadlines;
 pub mod ending;
 pub mod finishing;
+pub mod local;
 pub mod numbering;
+pub mod peer;
 pub mod queries;
+pub mod serving;
 
 /// The logical session: identity, flows, configuration and sequence state (FIXP 3.4.3).
 pub struct Session {
