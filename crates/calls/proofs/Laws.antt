@@ -39,6 +39,11 @@ use Rattle.calls.specs.View.{worldOf, goodRecord, Done, Unchanged, Answe
 use Rattle.calls.specs.declared.Called.{Called}
 
 -- ---- the record
+-- a configuration in its range allows few enough gaps that one more has a place
+pub config-pending : (g : FixpConfig) → configFits g ≡ true → g .«max_pending_gaps» ≤ 64
+unfolding configFits
+config-pending g e = leb-true (g .«max_pending_gaps») 64 (and-right (leb 1 (g .«max_gap_len») && leb 1 (g .«max_retransmit_count») && leb 1 (g .«max_pending_gaps»)) (leb (g .«max_pending_gaps») 64) e)
+
 module _ (s : Session) (l : Link) (q : Outputs) (e : goodRecord s l q ≡ true) where
   config-ok : configFits (s .config) ≡ true
   unfolding goodRecord
@@ -61,12 +66,7 @@ module _ (s : Session) (l : Link) (q : Outputs) (e : goodRecord s l q ≡ true) 
   good-queue = sound-outs q outs-ok
 
   pub good-session : SessWf s
-  unfolding configFits
-  good-session =
-      record {
-        gaps = sound-wf (s .gaps) gaps-ok;
-        pending = leb-true (s .config .«max_pending_gaps») 64 (and-right (leb 1 (s .config .«max_gap_len») && leb 1 (s .config .«max_retransmit_count») && leb 1 (s .config .«max_pending_gaps»)) (leb (s .config .«max_pending_gaps») 64) config-ok);
-      }
+  good-session = record { gaps = sound-wf (s .gaps) gaps-ok; pending = config-pending (s .config) config-ok }
 
   -- what the rules ask of a world
   pub good-sound : sound (worldOf s l q) ≡ true

@@ -63,3 +63,8 @@ isRefused (answer.Delivered d) = false
 isRefused (answer.Sent n) = false
 isRefused (answer.Batch b) = false
 isRefused (answer.Refused r) = true
+
+-- a new session, or the refusal of its configuration
+abbrev pub OpenedBy : Refused → Called → World → Type 0
+OpenedBy passes r w = Done r (record { world = w; answer = answer.Ok })
+OpenedBy (refuses x) r w = r .answer ≡ answer.Refused x

@@ -3,9 +3,9 @@ ghost use mathlib.Core.Path.{_≡_};
 ghost use Prim.Native.Nat.{_+_, _≤_};
 ghost use lib.ListN.{length};
 ghost use Rattle.queue.specs.View.{queueOf, OutsWf};
-ghost use Rattle.rules.specs.Calls.{configFits, hasRoom, unlinked};
+ghost use Rattle.rules.specs.Calls.{configFits, hasRoom, unlinked, opening, opened};
 ghost use Rattle.rules.specs.Calls.{bindCall, releaseCall, peerCall, applicationCall, sendCall, terminateCall, retransmitCall, rejectCall, endCall, timeoutCall};
-ghost use Rattle.calls.specs.View.{goodRecord, Answered, calledOf, isRefused, Unchanged};
+ghost use Rattle.calls.specs.View.{goodRecord, Answered, calledOf, isRefused, Unchanged, OpenedBy};
 use queue::Outputs;
 use session::Session;
 use session::Step;
@@ -14,10 +14,14 @@ use types::answers::Refusal;
 use types::binding::Link;
 use types::binding::MaybeBinding;
 use types::config::FixpConfig;
+use types::config::MaybeDuration;
+use types::config::RetransmitStallPolicy;
+use types::ids::FlowType;
 use types::ids::Instant;
 use types::ids::MaybeSeq;
 use types::ids::Nanotime;
 use types::ids::RetransmitRejectCode;
+use types::ids::SessionId;
 use types::ids::TerminationCode;
 use types::messages::PeerMessage;
 use types::reasons::Reason;
@@ -419,4 +423,42 @@ pub fn end_retransmission(session: Session, link: Link, queue: Outputs) -> Calle
     }
     let reason = link.reason;
     answered(step, reason)
+}
+
+/// The session that stands in for one that was not opened.
+fn least() -> FixpConfig
+    ensures { λ r. ⌜ r .«max_pending_gaps» ≤ 64 ⌝ }
+{
+    FixpConfig {
+        max_gap_len: 1,
+        max_retransmit_count: 1,
+        max_pending_gaps: 1,
+        retransmit_timeout: 0,
+        peer_silence_grace: MaybeDuration::None,
+        retransmit_stall_policy: RetransmitStallPolicy::EventOnly,
+    }
+}
+
+/// A new session, unbound, with an empty queue: 2. Where refused there is none: what comes back is for no one to use.
+pub fn open(
+    id: SessionId,
+    local_flow: FlowType,
+    remote_flow: FlowType,
+    config: FixpConfig,
+) -> Called
+    ensures { λ r. ⌜ OpenedBy (opening config) r (opened id «local_flow» «remote_flow» config) ⌝ }
+{
+    let link = unlink();
+    let queue = Outputs::new();
+    if !config_fits(config) {
+        let session = Session::new(id, local_flow, remote_flow, least());
+        return refused(session, link, queue, Refusal::BadConfig);
+    }
+    let session = Session::new(id, local_flow, remote_flow, config);
+    Called {
+        session,
+        link,
+        queue,
+        answer: Answer::Ok,
+    }
 }
