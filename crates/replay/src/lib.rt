@@ -1,9 +1,11 @@
 //! A trace's records run one after another, a line printed for each (01, "Trace program").
 ghost use mathlib.Core.Path.{_≡_};
 ghost use mathlib.Core.Bool.{true};
-ghost use Prim.Native.Nat.{_≤_};
+ghost use Prim.Native.Nat.{_≤_, _+_, _-_};
 ghost use lib.ListN.{length};
-ghost use Rattle.rings.specs.View.{GapRingWf};
+ghost use Rattle.types.specs.Base.{if_then_else_};
+ghost use Rattle.rings.specs.View.{GapRingWf, gapList, soundGaps};
+ghost use Rattle.replay.specs.Missing.{atMost, missingFigure};
 use calls::Called;
 use libc::STDOUT_FILENO;
 use queue::Outputs;
@@ -18,6 +20,8 @@ use types::answers::Refusal;
 use types::answers::SessionStatus;
 use types::binding::Link;
 use types::binding::MaybeBinding;
+use types::ids::ALL_ONES;
+use types::parts::Gap;
 use types::parts::MaybeGap;
 
 /// The longest input in bytes.
@@ -43,17 +47,30 @@ fn status_of(link: Link) -> SessionStatus {
     binding.status()
 }
 
-/// The sum of the gap lengths.
-fn missing_in(gaps: Gaps) -> u64 {
-    if !gaps.sound() {
+/// The length of a gap.
+fn length_of(gap: Gap) -> u64
+    ensures { λ r. ⌜ r ≡ gap .end .0 - gap .from .0 ⌝ }
+{
+    if gap.end.0 < gap.from.0 {
         return 0;
     }
-    let missing = gaps.missing;
-    sum_of(missing)
+    gap.end.0 - gap.from.0
 }
 
+/// A sum, or the largest number where it passes that.
+fn add_up(a: u64, b: u64) -> u64
+    ensures { λ r. ⌜ r ≡ atMost (a + b) ⌝ }
+{
+    if a <= ALL_ONES - b {
+        return a + b;
+    }
+    ALL_ONES
+}
+
+/// The missing figure of a list of gaps that is in order.
 fn sum_of(ring: GapRing) -> u64
     requires { ⌜ GapRingWf ring ⌝ }
+    ensures { λ r. ⌜ r ≡ missingFigure (gapList ring) ⌝ }
 {
     let mut left = ring;
     let mut sum: u64 = 0;
@@ -61,9 +78,20 @@ fn sum_of(ring: GapRing) -> u64
         let MaybeGap::Some(gap) = left.front() else {
             return sum;
         };
-        sum = std::num::wrapping_add_u64(sum, std::num::wrapping_sub_u64(gap.end.0, gap.from.0));
+        sum = add_up(sum, length_of(gap));
         left = left.pop_front();
     }
+}
+
+/// The missing figure: the sum of the gap lengths; of a record out of order none.
+pub fn missing_in(gaps: Gaps) -> u64
+    ensures { λ r. ⌜ r ≡ (if soundGaps gaps then missingFigure (gapList (gaps .missing)) else 0) ⌝ }
+{
+    if !gaps.sound() {
+        return 0;
+    }
+    let missing = gaps.missing;
+    sum_of(missing)
 }
 
 /// A record's call on a session that is open.
