@@ -15,3 +15,5 @@ pub mod Deadlines
 pub mod Queries
 pub mod Answers
 pub mod Calls
+pub mod Worked
+pub mod Edges
