@@ -21,11 +21,11 @@ use Rattle.rules.specs.Numbering.{allocateOutbound, gapHeld, gapRecorded
 use Rattle.rules.specs.Serving.{refuseRetransmit, isSent, serve, onRetransmitRequest}
 use Rattle.rules.specs.Finishing.{finishedWith, finishedSending, onFinishedSending}
 use Rattle.rules.specs.Binding.{newSession, resume, onEstablished, bind}
-use Rattle.rules.specs.Peer.{onPeer}
+use Rattle.rules.specs.Peer.{onContext, onPeer}
 use Rattle.rules.specs.Local.{sendRefused, sendApplication}
 use Rattle.rules.specs.Answers.{ok, accept, discard, sent, refused}
 use Rattle.rules.specs.Calls.{World, world, Call, configFits, sound, call}
-use Rattle.rules.specs.Worked.{Case, case, line, AllRight, _also_, ran, num, range, self, stamped, new, newWith, joins, binds, sequence, finishes, asks, arrives, sends, times, violates, gapSeen, requests, announces}
+use Rattle.rules.specs.Worked.{Case, case, line, AllRight, ran, num, range, self, stamped, new, newWith, joins, binds, sequence, finishes, asks, arrives, sends, times, violates, gapSeen, requests, announces}
 
 -- a world made, not reached: its next outbound number is n
 abbrev sendingAt : ℕ → World → World
@@ -42,10 +42,14 @@ finishSeen last = event (ev.PeerFinishedSending (seq.Some (num last)))
 abbrev twoGaps : List Call → List Call
 twoGaps l = binds 1 ∷ arrives ∷ sequence 3 ∷ arrives ∷ sequence 5 ∷ arrives ∷ l
 
--- n is announced and arrives, n + 1 does not, and so on, k times: each gap is one too many
-abbrev runsFrom : ℕ → ℕ → List Call
-runsFrom n zero = []
-runsFrom n (suc k) = binds n ∷ arrives ∷ sequence (n + 2) ∷ runsFrom (n + 2) k
+-- n is announced and arrives, n + 1 is lost, and so on, k times
+abbrev everySecond : ℕ → ℕ → List Call
+everySecond n zero = []
+everySecond n (suc k) = binds n ∷ arrives ∷ sequence (n + 2) ∷ everySecond (n + 2) k
+
+-- one gap allowed: 1 is the first, 3 is held, and each of the k gaps behind it is joined to that one
+abbrev joined : ℕ → List Call
+joined k = binds 1 ∷ sequence 2 ∷ arrives ∷ sequence 4 ∷ everySecond 4 k
 
 abbrev pub edges : List Case
 edges =
@@ -85,29 +89,10 @@ edges =
     ∷ case (newWith 3 policy.Terminate) (twoGaps (sequence 7 ∷ [])) (line ok status.Established 7 (range 2 3 ∷ range 4 5 ∷ range 6 7 ∷ []) 0 1 (gapSeen 6 1 ∷ []))
     ∷ case (newWith 3 policy.Terminate) (twoGaps (finishes 6 ∷ [])) (line ok status.Established 7 (range 2 3 ∷ range 4 5 ∷ range 6 7 ∷ []) 0 2 (finishSeen 6 ∷ gapSeen 6 1 ∷ []))
     -- "9. Run 256 kept, 257 not.": the expected number moves, and does not
-    ∷ case (newWith 1 policy.Terminate) (binds 1 ∷ sequence 2 ∷ arrives ∷ sequence 4 ∷ runsFrom 4 256) (line ok status.Unbound 516 (range 1 2 ∷ range 3 516 ∷ []) 256 5 (gapSeen 515 1 ∷ violates 18))
-    ∷ case (newWith 1 policy.Terminate) (binds 1 ∷ sequence 2 ∷ arrives ∷ sequence 4 ∷ runsFrom 4 257) (line ok status.Unbound 517 (range 1 2 ∷ range 3 516 ∷ []) 256 5 (gapSeen 517 1 ∷ violates 18))
+    ∷ case (newWith 1 policy.Terminate) (joined 256) (line ok status.Unbound 516 (range 1 2 ∷ range 3 516 ∷ []) 256 5 (gapSeen 515 1 ∷ violates 18))
+    ∷ case (newWith 1 policy.Terminate) (joined 257) (line ok status.Unbound 517 (range 1 2 ∷ range 3 516 ∷ []) 256 5 (gapSeen 517 1 ∷ violates 18))
     ∷ []
 
 pub edges-right : AllRight edges
-unfolding ran call sound configFits queued saying answering andThen noText sameId deadlineAt appendGap recordGap laterOf widen holdRefusedGap consumeMissing releaseBindingState fail violation fewer ask requestMissing maybeFinishReceiving allocateOutbound gapHeld gapRecorded onGap stopReplay announced onNextSeq numberLive onLive onApplication refuseRetransmit isSent serve onRetransmitRequest finishedWith finishedSending onFinishedSending newSession resume onEstablished bind onPeer sendRefused sendApplication
-edges-right =
-    -- edge 1
-    refl also refl
-    -- edge 2
-    also refl also refl
-    -- edge 3
-    also refl also refl also refl
-    -- edge 4
-    also refl also refl
-    -- edge 5
-    also refl also refl
-    -- edge 6
-    also refl also refl also refl
-    -- edge 7
-    also refl also refl also refl
-    -- edge 8
-    also refl also refl also refl also refl
-    -- edge 9
-    also refl also refl
-    also tt
+unfolding ran call sound configFits queued saying answering andThen noText sameId deadlineAt appendGap recordGap laterOf widen holdRefusedGap consumeMissing releaseBindingState fail violation fewer ask requestMissing maybeFinishReceiving allocateOutbound gapHeld gapRecorded onGap stopReplay announced onNextSeq numberLive onLive onApplication refuseRetransmit isSent serve onRetransmitRequest finishedWith finishedSending onFinishedSending newSession resume onEstablished bind onContext onPeer sendRefused sendApplication
+edges-right = (refl, (refl, (refl, (refl, (refl, (refl, (refl, (refl, (refl, (refl, (refl, (refl, (refl, (refl, (refl, (refl, (refl, (refl, (refl, (refl, (refl, (refl, (refl, tt)))))))))))))))))))))))

@@ -17,3 +17,4 @@ pub mod Answers
 pub mod Calls
 pub mod Worked
 pub mod Edges
+pub mod Slips

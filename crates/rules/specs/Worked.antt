@@ -75,11 +75,6 @@ abbrev pub AllRight : List Case → Type 0
 AllRight [] = Unit {0}
 AllRight (c ∷ cs) = (lineOf (after (c .start) (c .calls)) ≡ c .leaves) × AllRight cs
 
--- a row is right, and those below it
-infixr 1 _also_
-abbrev pub _also_ : {A B : Type 0} → A → B → A × B
-a also b = (a, b)
-
 -- ---- sessions: of 01's example, but for the policy
 abbrev pub num : ℕ → SeqNum
 num n = record { 0 = n }
