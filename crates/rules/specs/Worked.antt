@@ -6,7 +6,7 @@ use mathlib.Core.List.{List, [], _∷_, _++_}
 use lib.ListN.{length}
 use Rattle.types.specs.Reasons.{noText}
 use Rattle.types.specs.States.{linkStatus}
-use Rattle.rules.specs.Names.{SeqNum, SessionId, Nanotime, Instant, FixpConfig, RetransmitStallPolicy, PeerMessage, Output, Gap, SessionStatus, TerminationCode}
+use Rattle.rules.specs.Names.{SeqNum, SessionId, Nanotime, Instant, FixpConfig, RetransmitStallPolicy, PeerMessage, Output, Gap, SessionStatus}
 use Rattle.rules.specs.Names.seq
 use Rattle.rules.specs.Names.flow
 use Rattle.rules.specs.Names.code
@@ -92,7 +92,7 @@ configured gaps stall =
       «max_retransmit_count» = 10;
       «max_pending_gaps» = gaps;
       «retransmit_timeout» = 1000;
-      «peer_silence_grace» = duration.None;
+      «peer_silence_grace» = duration.Some 1000;
       «retransmit_stall_policy» = stall;
     }
 
