@@ -2,12 +2,11 @@
 use mathlib.Core.Path.{_≡_}
 use mathlib.Core.Bool.{Bool, true, false, _&&_}
 use Rattle.types.specs.Reasons.{reasonFits}
-use Rattle.rules.specs.Names.{Link, Reason, Answer, Refusal, MaybeInstant}
+use Rattle.rules.specs.Names.{Link, Reason, Answer, Refusal}
 use Rattle.rules.specs.Names.answer
 use Rattle.rules.specs.Names.refusal
-use Rattle.rules.specs.State.{Queue}
 use Rattle.rules.specs.Local.{Refused, passes, refuses}
-use Rattle.rules.specs.Calls.{World, world, Call, wrong, does, Ran, linkAfter, configFits, opening, opened, reading, polled, deadlineOf, transportClosed}
+use Rattle.rules.specs.Calls.{World, world, Call, wrong, does, Ran, linkAfter, configFits}
 use Rattle.rings.specs.View.{soundGaps}
 use Rattle.queue.specs.View.{queueOf, OutsWf, soundOuts}
 use Rattle.queue.specs.declared.Outputs.{Outputs}

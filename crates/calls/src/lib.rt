@@ -26,6 +26,8 @@ use types::ids::TerminationCode;
 use types::messages::PeerMessage;
 use types::reasons::Reason;
 
+pub mod reading;
+
 /// What a call leaves, and its answer.
 pub struct Called {
     pub session: Session,
