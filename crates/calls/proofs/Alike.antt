@@ -12,7 +12,7 @@ use Rattle.rules.specs.Calls.{World, Call, wrong, does, Ran, ranIf, call, readi
 use Rattle.queue.specs.View.{queueOf}
 use Rattle.queue.specs.declared.Outputs.{Outputs}
 use Rattle.session.specs.declared.Session.{Session}
-use Rattle.calls.specs.View.{worldOf, goodRecord, viewCalled, AnsweredBy, Answered, ofGood}
+use Rattle.calls.specs.View.{worldOf, goodRecord, viewCalled, Done, AnsweredBy, Answered, ofGood}
 use Rattle.calls.specs.Reading.{noOutput, PolledOf, PolledBy, ClosedBy}
 use Rattle.calls.specs.declared.Called.{Called}
 use Rattle.calls.specs.declared.reading.PollAnswer.{PollAnswer}
@@ -47,6 +47,10 @@ same-lists-answer-alike c r r' s s' l l' q q' g w a b =
 -- one record has one outcome
 pub contract-fixes-the-outcome : (c : Call) (r r' : Called) (s : Session) (l : Link) (q : Outputs) → Answered c r s l q → Answered c r' s l q → viewCalled r ≡ viewCalled r'
 contract-fixes-the-outcome c r r' s l q a b = same-lists-answer-alike c r r' s s l l q q refl refl a b
+
+-- an open, refused or not
+pub open-fixes-the-outcome : (m : Ran) (r r' : Called) → Done r m → Done r' m → viewCalled r ≡ viewCalled r'
+open-fixes-the-outcome m r r' a b = a .is ∙ sym (b .is)
 
 -- where a call is refused, the records that may come back are the same, ring for ring
 pub refused-is-one-record : (c : Call) (x : Refusal) (r r' : Called) (s : Session) (l : Link) (q : Outputs) → ofGood (goodRecord s l q) (wrong c (worldOf s l q)) ≡ refuses x → Answered c r s l q → Answered c r' s l q → r ≡ r'

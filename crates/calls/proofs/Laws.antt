@@ -36,7 +36,7 @@ use Rattle.queue.proofs.Laws.{and-left, and-right, sound-outs, outs-length}
 use Rattle.session.specs.View.{SessWf, StepIs, After, LocalIs}
 use Rattle.session.specs.declared.Session.{Session}
 use Rattle.session.specs.declared.Step.{Step}
-use Rattle.calls.specs.View.{worldOf, goodRecord, Unchanged, AnsweredBy, ofGood, calledOf, isRefused}
+use Rattle.calls.specs.View.{worldOf, goodRecord, Done, Unchanged, AnsweredBy, ofGood, calledOf, isRefused}
 use Rattle.calls.specs.Reading.{untaken, PolledOf}
 use Rattle.calls.specs.declared.Called.{Called}
 use Rattle.calls.specs.declared.reading.PollAnswer.the-variants as poll
@@ -125,6 +125,15 @@ local-done (refuses x) r t b d reason m s l q h n c k = absurd (true≢false (ap
 
 pub answer-as : (f w : Refused) (r : Called) (m : Ran) (s : Session) (l : Link) (q : Outputs) → f ≡ w → AnsweredBy w r m s l q → AnsweredBy f r m s l q
 answer-as f w r m s l q e u = rw e u
+
+-- a refused call as what it stands for
+pub refused-done : (r : Called) (x : Refusal) (s : Session) (l : Link) (q : Outputs) (w : World) → Unchanged r x s l q → SessWf s → OutsWf q → worldOf s l q ≡ w → Done r (record { world = w; answer = answer.Refused x })
+refused-done r x s l q w u hs hq e =
+    record {
+      session = rw (u .session) hs;
+      queue = rw (u .queue) hq;
+      is = (λ i. record { world = worldOf (u .session i) (u .link i) (u .queue i); answer = u .answer i }) ∙ ap (λ (v : World). record { world = v; answer = answer.Refused x }) e;
+    }
 
 -- ---- a local call that its rule does not refuse answers no refusal
 pub sent-answers : (now : Instant) (s : Sess) (b : Binding) → isRefused (sendApplication now s b .answer) ≡ false
