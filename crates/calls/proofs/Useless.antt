@@ -10,7 +10,7 @@ use borrow.Author.Tests.{le-leb, lt-ltb}
 use Rattle.types.specs.Base.{deadlineAt}
 use Rattle.types.specs.Reasons.{noText, reasonFits}
 use Rattle.types.specs.States.{binding}
-use Rattle.rules.specs.Names.{SeqNum, Nanotime, Instant, MaybeSeq, FixpConfig, MaybeProvider, Link, Answer, Gap}
+use Rattle.rules.specs.Names.{SeqNum, SessionId, Nanotime, Instant, MaybeSeq, FlowType, FixpConfig, MaybeProvider, Link, Answer, Gap}
 use Rattle.rules.specs.Names.seq
 use Rattle.rules.specs.Names.flow
 use Rattle.rules.specs.Names.code
@@ -35,7 +35,7 @@ use Rattle.rules.specs.Binding.{resume, onEstablished, bind}
 use Rattle.rules.specs.Peer.{onPeer}
 use Rattle.rules.specs.Local.{sendRefused, sendApplication, terminateRefused, terminate, retransmitRefused, batch, retransmit, rejectRefused, rejectRetransmitRequest, endRefused, endRetransmission}
 use Rattle.rules.specs.Deadlines.{silenceDeadline, stallDeadline, heartbeatDeadline, heartbeat, heartbeatIfDue, stallIfDue, establishedTimeout, onTimeout}
-use Rattle.rules.specs.Calls.{World, Ran, Call, bindCall, releaseCall, peerCall, applicationCall, sendCall, terminateCall, retransmitCall, rejectCall, endCall, timeoutCall, unlinked, configFits, sound, textsFit, maxOuts}
+use Rattle.rules.specs.Calls.{World, Ran, Call, bindCall, releaseCall, peerCall, applicationCall, sendCall, terminateCall, retransmitCall, rejectCall, endCall, timeoutCall, unlinked, configFits, sound, textsFit, maxOuts, opening, opened}
 use Rattle.rules.specs.Gaps.{maxGaps, maxRuns}
 use Rattle.rings.specs.Ring.{ringList}
 use Rattle.rings.specs.View.{noGap, gapList, runList, soundGaps}
@@ -44,7 +44,7 @@ use Rattle.queue.specs.View.{outsOf}
 use Rattle.queue.specs.declared.Outputs.{Outputs}
 use Rattle.queue.proofs.Laws.{and-left, and-right}
 use Rattle.session.specs.declared.Session.{Session}
-use Rattle.calls.specs.View.{worldOf, goodRecord, viewCalled, Done, Answered, isRefused}
+use Rattle.calls.specs.View.{worldOf, goodRecord, viewCalled, Done, Answered, isRefused, openedAs}
 use Rattle.calls.specs.declared.Called.{Called}
 use Rattle.calls.proofs.Alike.{outcome, answered-is}
 
@@ -312,3 +312,15 @@ module _ (p : Port) (m : Meets p) where
 
   pub invented-missing-counts-are-ruled-out : Invents missingLeft p → ⊥
   invented-missing-counts-are-ruled-out = invention-is-ruled-out missingLeft
+
+-- ---- an open that refuses each configuration
+abbrev Open : Type 0
+Open = SessionId → FlowType → FlowType → FixpConfig → Called
+
+abbrev Opens : Open → Type 0
+Opens o = (id : SessionId) (local remote : FlowType) (config : FixpConfig) → Done (o id local remote config) (openedAs (opening config) (opened id local remote) config)
+
+pub refusing-each-open-is-ruled-out : (o : Open) → Opens o → ((id : SessionId) (local remote : FlowType) (config : FixpConfig) → isRefused (o id local remote config .answer) ≡ true) → ⊥
+unfolding configFits
+refusing-each-open-is-ruled-out o m u =
+    true≢false (sym (u (record { 0 = 1; 1 = 1 }) flow.Recoverable flow.Recoverable small) ∙ ap (λ (r : Ran). isRefused (r .answer)) (m (record { 0 = 1; 1 = 1 }) flow.Recoverable flow.Recoverable small .is))
