@@ -32,7 +32,7 @@ use Rattle.rules.specs.Numbering.{acceptLive, numberLive, onLive, onApplication
 use Rattle.rules.specs.Ending.{releaseBindingState}
 use Rattle.rules.specs.Asking.{requestMissing, maybeFinishReceiving}
 use Rattle.rules.specs.Binding.{resume, onEstablished, bind}
-use Rattle.rules.specs.Peer.{onPeer}
+use Rattle.rules.specs.Peer.{isAccept, onPeer}
 use Rattle.rules.specs.Local.{sendRefused, sendApplication, terminateRefused, terminate, retransmitRefused, batch, retransmit, rejectRefused, rejectRetransmitRequest, endRefused, endRetransmission}
 use Rattle.rules.specs.Deadlines.{silenceDeadline, stallDeadline, heartbeatDeadline, heartbeat, heartbeatIfDue, stallIfDue, establishedTimeout, onTimeout}
 use Rattle.rules.specs.Calls.{World, Ran, Call, bindCall, releaseCall, peerCall, applicationCall, sendCall, terminateCall, retransmitCall, rejectCall, endCall, timeoutCall, unlinked, configFits, sound, textsFit, maxOuts, opening, opened}
@@ -221,20 +221,23 @@ not-refused waits = refl
 abbrev RefusesKind : Kind → Port → Type 0
 RefusesKind k p = (s : Session) (l : Link) (q : Outputs) → isRefused (p (sample k) s l q .answer) ≡ true
 
--- ---- one that always answers `accept:1`, be it to application messages alone
+-- ---- one that always answers `accept:1`, be it only that it accepts under no other number
 abbrev AcceptsOne : Port → Type 0
-AcceptsOne p = (now : Instant) (stamp : Nanotime) (s : Session) (l : Link) (q : Outputs) → goodRecord s l q ≡ true → p (applicationCall now stamp) s l q .answer ≡ acceptLive (seq.Some (num 1))
+AcceptsOne p = (now : Instant) (stamp : Nanotime) (s : Session) (l : Link) (q : Outputs) (n : SeqNum) → p (applicationCall now stamp) s l q .answer ≡ acceptLive (seq.Some n) → n .0 ≡ 1
 
--- ---- one that changes nothing, be it only what the record stands for
+-- ---- one that changes nothing, be it only the expected number at an application message
 abbrev ChangesNothing : Port → Type 0
 ChangesNothing p = (c : Call) (s : Session) (l : Link) (q : Outputs) → viewCalled (p c s l q) .world ≡ worldOf s l q
 
--- ---- one that numbers the first message and then only echoes: the second is answered as the first was
+abbrev KeepsExpecting : Port → Type 0
+KeepsExpecting p = (now : Instant) (stamp : Nanotime) (s : Session) (l : Link) (q : Outputs) → viewCalled (p (applicationCall now stamp) s l q) .world .session .inbound-next ≡ worldOf s l q .session .inbound-next
+
+-- ---- one that numbers the first message and then only echoes: behind one that it accepted, the next is answered alike
 abbrev again : Port → Call → Called → Called
 again p c r = p c (r .session) (r .link) (r .queue)
 
 abbrev Echoes : Port → Type 0
-Echoes p = (now : Instant) (stamp : Nanotime) (s : Session) (l : Link) (q : Outputs) → again p (applicationCall now stamp) (p (applicationCall now stamp) s l q) .answer ≡ p (applicationCall now stamp) s l q .answer
+Echoes p = (now : Instant) (stamp : Nanotime) (s : Session) (l : Link) (q : Outputs) → isAccept (p (applicationCall now stamp) s l q .answer) ≡ true → again p (applicationCall now stamp) (p (applicationCall now stamp) s l q) .answer ≡ p (applicationCall now stamp) s l q .answer
 
 -- ---- one that invents gaps, outputs or missing counts: of some record it leaves more than the rule does
 abbrev gapsLeft : Ran → ℕ
@@ -280,13 +283,16 @@ module _ (p : Port) (m : Meets p) where
   refusing-each-is-ruled-out u = refusing-a-kind-is-ruled-out releases (u releaseCall)
 
   pub accepting-one-is-ruled-out : AcceptsOne p → ⊥
-  accepting-one-is-ruled-out u = one-is-not-two (sym (u at seven (expecting 2) bound empty (small-good provider.None 2)) ∙ numbers-two p m)
+  accepting-one-is-ruled-out u = let z : _≡_ {A = ℕ} 2 1 = u at seven (expecting 2) bound empty (num 2) (numbers-two p m) in omega (arith, z)
+
+  pub expecting-the-same-is-ruled-out : KeepsExpecting p → ⊥
+  expecting-the-same-is-ruled-out u =
+      let e : seq.Some (num 1) ≡ seq.Some (num 2) = sym (u at seven (expecting 1) bound empty) ∙ ap (λ (r : Ran). r .world .session .inbound-next) (numbers-one p m) in
+      let z : _≡_ {A = ℕ} 1 2 = ap numberOf e in
+      omega (arith, z)
 
   pub changing-nothing-is-ruled-out : ChangesNothing p → ⊥
-  changing-nothing-is-ruled-out u =
-      let e : worldOf (expecting 1) bound empty ≡ worldOf (expecting 2) bound empty = sym (u arrives (expecting 1) bound empty) ∙ ap (λ (r : Ran). r .world) (numbers-one p m) in
-      let z : _≡_ {A = ℕ} 1 2 = ap (λ (w : World). numberOf (w .session .inbound-next)) e in
-      omega (arith, z)
+  changing-nothing-is-ruled-out u = expecting-the-same-is-ruled-out (λ now stamp s l q. ap (λ (w : World). w .session .inbound-next) (u (applicationCall now stamp) s l q))
 
   -- the record that the first message left is good, and expects 2
   second : again p arrives (p arrives (expecting 1) bound empty) .answer ≡ acceptLive (seq.Some (num 2))
@@ -299,7 +305,9 @@ module _ (p : Port) (m : Meets p) where
       ap (λ (x : Ran). x .answer) (met p m arrives (r .session) (r .link) (r .queue) ∙ (λ i. outcome (g i) arrives (n i .world)))
 
   pub echoing-is-ruled-out : Echoes p → ⊥
-  echoing-is-ruled-out u = one-is-not-two (sym (ap (λ (r : Ran). r .answer) (numbers-one p m)) ∙ sym (u at seven (expecting 1) bound empty) ∙ second)
+  echoing-is-ruled-out u =
+      let first = ap (λ (r : Ran). r .answer) (numbers-one p m) in
+      one-is-not-two (sym first ∙ sym (u at seven (expecting 1) bound empty (ap isAccept first)) ∙ second)
 
   pub invention-is-ruled-out : (count : Ran → ℕ) → Invents count p → ⊥
   invention-is-ruled-out count (c, s, l, q, more) = omega (arith, more, ap count (met p m c s l q))
