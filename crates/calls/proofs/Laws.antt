@@ -1,14 +1,14 @@
 -- How a call's answer follows from its tests: a bad record, no binding, no room, and else the step.
-use Prim.Native.Nat.{ℕ, _+_, _<_, _≤_}
+use Prim.Native.Nat.{ℕ, _≤_}
 use mathlib.Core.Path.{_≡_, refl, ap, sym, _∙_}
-use mathlib.Core.Bool.{Bool, true, false, not, _&&_, false≢true, true≢false}
-use mathlib.Core.List.{List, []}
+use mathlib.Core.Bool.{Bool, true, false, _&&_, true≢false}
+use mathlib.Core.List.{List, [], _∷_}
 use native.Mathlib.Omega.{arith}
 use lib.ListN.{length}
 use lib.Dec.{leb, ltb}
 use borrow.Author.Tests.{leb-true, le-leb}
 use Rattle.types.specs.Reasons.{reasonFits}
-use Rattle.rules.specs.Names.{Link, Reason, Answer, Refusal, Bound, Binding, MaybeBinding, FixpConfig}
+use Rattle.rules.specs.Names.{Link, Reason, Refusal, Binding, MaybeBinding, FixpConfig, Output}
 use Rattle.rules.specs.Names.{Instant, TerminationCode, RetransmitRejectCode, MaybeProvider}
 use Rattle.rules.specs.Names.code
 use Rattle.rules.specs.Names.seq
@@ -17,7 +17,7 @@ use Rattle.rules.specs.Names.provider
 use Rattle.rules.specs.Names.linked
 use Rattle.rules.specs.Names.answer
 use Rattle.rules.specs.Names.refusal
-use Rattle.rules.specs.State.{Sess, Queue, queued, Did}
+use Rattle.rules.specs.State.{Sess, Did}
 use Rattle.rules.specs.Gaps.{maxGaps, maxRuns}
 use Rattle.types.specs.Base.{if_then_else_}
 use Rattle.types.specs.Flows.{isSequenced}
@@ -25,18 +25,22 @@ use Rattle.types.specs.States.{withKeepalive}
 use Rattle.rules.specs.State.{did, answering}
 use Rattle.rules.specs.Numbering.{allocateOutbound}
 use Rattle.rules.specs.Local.{Refused, passes, refuses, unless, keptAlive, sendApplication, terminate, retransmit, batch, batchAt, rejectRetransmitRequest, rejectAt, endRetransmission}
-use Rattle.rules.specs.Calls.{World, Ran, ranAs, linkAfter, ifBound, within, configFits, sound, textsFit, hasRoom, maxOuts}
-use Rattle.rings.specs.View.{soundGaps, GapsWf, gapList, runList}
+use Rattle.rules.specs.Calls.{World, Ran, ranAs, linkAfter, ifBound, within, configFits, sound, textsFit, maxOuts, polled}
+use Rattle.rings.specs.View.{soundGaps, gapList, runList}
 use Rattle.rings.proofs.GapLaws.{sound-wf}
 use Rattle.rings.proofs.GapLaws as gaps
-use Rattle.queue.specs.View.{queueOf, outsOf, OutsWf, soundOuts}
+use Rattle.queue.specs.View.{queueOf, outsOf, OutsWf, QueueIs, Given, soundOuts}
 use Rattle.queue.specs.declared.Outputs.{Outputs}
+use Rattle.queue.specs.declared.Polled.{Polled as Taken}
 use Rattle.queue.proofs.Laws.{and-left, and-right, sound-outs, outs-length}
-use Rattle.session.specs.View.{view, SessWf, StepIs, After, LocalIs, refusedStep}
+use Rattle.session.specs.View.{SessWf, StepIs, After, LocalIs}
 use Rattle.session.specs.declared.Session.{Session}
 use Rattle.session.specs.declared.Step.{Step}
 use Rattle.calls.specs.View.{worldOf, goodRecord, Done, Unchanged, AnsweredBy, ofGood, calledOf, isRefused}
+use Rattle.calls.specs.Reading.{untaken, PolledOf}
 use Rattle.calls.specs.declared.Called.{Called}
+use Rattle.calls.specs.declared.reading.PollAnswer.the-variants as poll
+use Rattle.calls.specs.declared.reading.Polled.{Polled}
 
 -- ---- the record
 -- a configuration in its range allows few enough gaps that one more has a place
@@ -122,6 +126,15 @@ local-done (refuses x) r t b d reason m s l q h n c k = absurd (true≢false (ap
 pub answer-as : (f w : Refused) (r : Called) (m : Ran) (s : Session) (l : Link) (q : Outputs) → f ≡ w → AnsweredBy w r m s l q → AnsweredBy f r m s l q
 answer-as f w r m s l q e u = rw e u
 
+-- a refused call as what it stands for
+pub refused-done : (r : Called) (x : Refusal) (s : Session) (l : Link) (q : Outputs) (w : World) → Unchanged r x s l q → SessWf s → OutsWf q → worldOf s l q ≡ w → Done r (record { world = w; answer = answer.Refused x })
+refused-done r x s l q w u hs hq e =
+    record {
+      session = rw (u .session) hs;
+      queue = rw (u .queue) hq;
+      is = (λ i. record { world = worldOf (u .session i) (u .link i) (u .queue i); answer = u .answer i }) ∙ ap (λ (v : World). record { world = v; answer = answer.Refused x }) e;
+    }
+
 -- ---- a local call that its rule does not refuse answers no refusal
 pub sent-answers : (now : Instant) (s : Sess) (b : Binding) → isRefused (sendApplication now s b .answer) ≡ false
 unfolding sendApplication answering
@@ -157,3 +170,12 @@ reject-answers code text s b = go (s .provider)
 pub end-answers : (s : Sess) (b : Binding) → isRefused (endRetransmission s b .answer) ≡ false
 unfolding endRetransmission
 end-answers s b = refl
+
+-- ---- a poll: of no output, and of a first one
+pub polled-none : (l : List Output) (r : Polled) (q : Outputs) → length l ≡ 0 → r ≡ untaken poll.Empty q → PolledOf l r q
+polled-none [] r q e u = u
+polled-none (o ∷ l) r q e u = absurd (omega (arith, e))
+
+pub polled-first : (l : List Output) (t : Taken) (q : Outputs) → (length l ≡ 0 → ⊥) → QueueIs (t .queue) (polled (queueOf q)) → Given (t .some) (t .output) l → PolledOf l (record { queue = t .queue; output = t .output; answer = poll.Output }) q
+polled-first [] t q n w g = absurd (n refl)
+polled-first (o ∷ l) t q n w g = record { queue = w; output = g .1; answer = refl }

@@ -2,12 +2,13 @@
 use mathlib.Core.Path.{_≡_}
 use mathlib.Core.Bool.{Bool, true, false, _&&_}
 use Rattle.types.specs.Reasons.{reasonFits}
-use Rattle.rules.specs.Names.{Link, Reason, Answer, Refusal, MaybeInstant}
+use Rattle.rules.specs.Names.{Link, Reason, Answer, Refusal, FixpConfig}
+use Rattle.rules.specs.Names.duration
+use Rattle.rules.specs.Names.policy
 use Rattle.rules.specs.Names.answer
 use Rattle.rules.specs.Names.refusal
-use Rattle.rules.specs.State.{Queue}
 use Rattle.rules.specs.Local.{Refused, passes, refuses}
-use Rattle.rules.specs.Calls.{World, world, Call, wrong, does, Ran, linkAfter, configFits, opening, opened, reading, polled, deadlineOf, transportClosed}
+use Rattle.rules.specs.Calls.{World, world, Call, wrong, does, Ran, linkAfter, configFits}
 use Rattle.rings.specs.View.{soundGaps}
 use Rattle.queue.specs.View.{queueOf, OutsWf, soundOuts}
 use Rattle.queue.specs.declared.Outputs.{Outputs}
@@ -64,7 +65,20 @@ isRefused (answer.Sent n) = false
 isRefused (answer.Batch b) = false
 isRefused (answer.Refused r) = true
 
--- a new session, or the refusal of its configuration
-abbrev pub OpenedBy : Refused → Called → World → Type 0
-OpenedBy passes r w = Done r (record { world = w; answer = answer.Ok })
-OpenedBy (refuses x) r w = r .answer ≡ answer.Refused x
+-- ---- a new session
+-- of the session that stands in for one that was not opened
+abbrev pub leastConfig : FixpConfig
+leastConfig =
+    record {
+      «max_gap_len» = 1;
+      «max_retransmit_count» = 1;
+      «max_pending_gaps» = 1;
+      «retransmit_timeout» = 0;
+      «peer_silence_grace» = duration.None;
+      «retransmit_stall_policy» = policy.EventOnly;
+    }
+
+-- the new session, or the refusal of its configuration: then what comes back is for no one to use
+abbrev pub openedAs : Refused → (FixpConfig → World) → FixpConfig → Ran
+openedAs passes w config = record { world = w config; answer = answer.Ok }
+openedAs (refuses x) w config = record { world = w leastConfig; answer = answer.Refused x }

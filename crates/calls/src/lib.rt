@@ -1,11 +1,9 @@
 //! The exported calls: any record and any message, refused by 01's table in its order or done as the rule book says.
 ghost use mathlib.Core.Path.{_≡_};
-ghost use Prim.Native.Nat.{_+_, _≤_};
-ghost use lib.ListN.{length};
 ghost use Rattle.queue.specs.View.{queueOf, OutsWf};
 ghost use Rattle.rules.specs.Calls.{configFits, hasRoom, unlinked, opening, opened};
 ghost use Rattle.rules.specs.Calls.{bindCall, releaseCall, peerCall, applicationCall, sendCall, terminateCall, retransmitCall, rejectCall, endCall, timeoutCall};
-ghost use Rattle.calls.specs.View.{goodRecord, Answered, calledOf, isRefused, Unchanged, OpenedBy};
+ghost use Rattle.calls.specs.View.{goodRecord, Answered, calledOf, isRefused, Unchanged, Done, leastConfig, openedAs};
 use queue::Outputs;
 use session::Session;
 use session::Step;
@@ -25,6 +23,8 @@ use types::ids::SessionId;
 use types::ids::TerminationCode;
 use types::messages::PeerMessage;
 use types::reasons::Reason;
+
+pub mod reading;
 
 /// What a call leaves, and its answer.
 pub struct Called {
@@ -427,7 +427,7 @@ pub fn end_retransmission(session: Session, link: Link, queue: Outputs) -> Calle
 
 /// The session that stands in for one that was not opened.
 fn least() -> FixpConfig
-    ensures { λ r. ⌜ r .«max_pending_gaps» ≤ 64 ⌝ }
+    ensures { λ r. ⌜ r ≡ leastConfig ⌝ }
 {
     FixpConfig {
         max_gap_len: 1,
@@ -446,7 +446,7 @@ pub fn open(
     remote_flow: FlowType,
     config: FixpConfig,
 ) -> Called
-    ensures { λ r. ⌜ OpenedBy (opening config) r (opened id «local_flow» «remote_flow» config) ⌝ }
+    ensures { λ r. ⌜ Done r (openedAs (opening config) (opened id «local_flow» «remote_flow») config) ⌝ }
 {
     let link = unlink();
     let queue = Outputs::new();
