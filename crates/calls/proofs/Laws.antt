@@ -2,13 +2,13 @@
 use Prim.Native.Nat.{ℕ, _≤_}
 use mathlib.Core.Path.{_≡_, refl, ap, sym, _∙_}
 use mathlib.Core.Bool.{Bool, true, false, _&&_, true≢false}
-use mathlib.Core.List.{List, [], _∷_}
 use native.Mathlib.Omega.{arith}
+use mathlib.Core.List.{[]}
 use lib.ListN.{length}
 use lib.Dec.{leb, ltb}
 use borrow.Author.Tests.{leb-true, le-leb}
 use Rattle.types.specs.Reasons.{reasonFits}
-use Rattle.rules.specs.Names.{Link, Reason, Refusal, Binding, MaybeBinding, FixpConfig, Output}
+use Rattle.rules.specs.Names.{Link, Reason, Refusal, Binding, MaybeBinding, FixpConfig}
 use Rattle.rules.specs.Names.{Instant, TerminationCode, RetransmitRejectCode, MaybeProvider}
 use Rattle.rules.specs.Names.code
 use Rattle.rules.specs.Names.seq
@@ -25,22 +25,18 @@ use Rattle.types.specs.States.{withKeepalive}
 use Rattle.rules.specs.State.{did, answering}
 use Rattle.rules.specs.Numbering.{allocateOutbound}
 use Rattle.rules.specs.Local.{Refused, passes, refuses, unless, keptAlive, sendApplication, terminate, retransmit, batch, batchAt, rejectRetransmitRequest, rejectAt, endRetransmission}
-use Rattle.rules.specs.Calls.{World, Ran, ranAs, linkAfter, ifBound, within, configFits, sound, textsFit, maxOuts, polled}
+use Rattle.rules.specs.Calls.{World, Ran, ranAs, linkAfter, ifBound, within, configFits, sound, textsFit, maxOuts}
 use Rattle.rings.specs.View.{soundGaps, gapList, runList}
 use Rattle.rings.proofs.GapLaws.{sound-wf}
 use Rattle.rings.proofs.GapLaws as gaps
-use Rattle.queue.specs.View.{queueOf, outsOf, OutsWf, QueueIs, Given, soundOuts}
+use Rattle.queue.specs.View.{queueOf, outsOf, OutsWf, soundOuts}
 use Rattle.queue.specs.declared.Outputs.{Outputs}
-use Rattle.queue.specs.declared.Polled.{Polled as Taken}
 use Rattle.queue.proofs.Laws.{and-left, and-right, sound-outs, outs-length}
 use Rattle.session.specs.View.{SessWf, StepIs, After, LocalIs}
 use Rattle.session.specs.declared.Session.{Session}
 use Rattle.session.specs.declared.Step.{Step}
 use Rattle.calls.specs.View.{worldOf, goodRecord, Done, Unchanged, AnsweredBy, ofGood, calledOf, isRefused}
-use Rattle.calls.specs.Reading.{untaken, PolledOf}
 use Rattle.calls.specs.declared.Called.{Called}
-use Rattle.calls.specs.declared.reading.PollAnswer.the-variants as poll
-use Rattle.calls.specs.declared.reading.Polled.{Polled}
 
 -- ---- the record
 -- a configuration in its range allows few enough gaps that one more has a place
@@ -170,12 +166,3 @@ reject-answers code text s b = go (s .provider)
 pub end-answers : (s : Sess) (b : Binding) → isRefused (endRetransmission s b .answer) ≡ false
 unfolding endRetransmission
 end-answers s b = refl
-
--- ---- a poll: of no output, and of a first one
-pub polled-none : (l : List Output) (r : Polled) (q : Outputs) → length l ≡ 0 → r ≡ untaken poll.Empty q → PolledOf l r q
-polled-none [] r q e u = u
-polled-none (o ∷ l) r q e u = absurd (omega (arith, e))
-
-pub polled-first : (l : List Output) (t : Taken) (q : Outputs) → (length l ≡ 0 → ⊥) → QueueIs (t .queue) (polled (queueOf q)) → Given (t .some) (t .output) l → PolledOf l (record { queue = t .queue; output = t .output; answer = poll.Output }) q
-polled-first [] t q n w g = absurd (n refl)
-polled-first (o ∷ l) t q n w g = record { queue = w; output = g .1; answer = refl }

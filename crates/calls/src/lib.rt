@@ -24,7 +24,6 @@ use types::ids::TerminationCode;
 use types::messages::PeerMessage;
 use types::reasons::Reason;
 
-pub mod reading;
 
 /// What a call leaves, and its answer.
 pub struct Called {
@@ -35,7 +34,7 @@ pub struct Called {
 }
 
 /// 2: `max_gap_len` or `max_retransmit_count` 0, or `max_pending_gaps` 0 or over 64, is out of range.
-fn config_fits(config: FixpConfig) -> bool
+pub fn config_fits(config: FixpConfig) -> bool
     ensures { λ r. ⌜ r ≡ configFits config ⌝ }
 {
     if config.max_gap_len < 1 {
@@ -51,7 +50,7 @@ fn config_fits(config: FixpConfig) -> bool
 }
 
 /// 1: every count, position and reason length within its room, and the configuration in its range.
-fn is_good(session: Session, link: Link, queue: Outputs) -> bool
+pub fn is_good(session: Session, link: Link, queue: Outputs) -> bool
     ensures { λ r. ⌜ r ≡ goodRecord session link queue ⌝ }
 {
     let config = session.config;
