@@ -315,15 +315,30 @@ PUSHED = 'QueueIs {r} (queued (queueOf {q}) (%s ∷ []))'
 POLLED = [('queue', 'Outputs'), ('output', 'Output'), ('some', 'bool')]
 CALLED = [('session', 'Session'), ('link', 'Link'), ('queue', 'Outputs'), ('answer', 'Answer')]
 
+# each call: what it takes beside session and link, and its rule
 CALLS = [
-    ('on_application', ['Instant', 'Nanotime'], 'applicationCall {3} {4}'),
+    ('bind', ['Instant', 'Nanotime', 'u64', 'u64', 'MaybeSeq'], '(bindCall {3} {4} {5} {6} {7})'),
+    ('release', [], 'releaseCall'),
+    ('on_peer', ['Instant', 'Nanotime', 'PeerMessage', 'Reason'], '(peerCall {3} {4} {5} {6})'),
+    ('on_application', ['Instant', 'Nanotime'], '(applicationCall {3} {4})'),
+    ('on_timeout', ['Instant', 'Nanotime'], '(timeoutCall {3} {4})'),
+    ('send_application', ['Instant'], '(sendCall {3})'),
+    ('terminate', ['Instant', 'TerminationCode', 'Reason'], '(terminateCall {3} {4} {5})'),
+    ('retransmit', ['Instant', 'u32'], '(retransmitCall {3} {4})'),
+    ('reject_retransmit_request', ['RetransmitRejectCode', 'Reason'], '(rejectCall {3} {4})'),
+    ('end_retransmission', [], 'endCall'),
 ]
 
 
 def main():
     lent(Function('push', 'queue::Outputs::push', ['Output'], PUSHED % '{1}', ROOM))
+    lent(Function('send', 'queue::Outputs::send', ['SessionMessage'], PUSHED % 'send {1}', ROOM))
+    lent(Function('event', 'queue::Outputs::event', ['Event'], PUSHED % 'event {1}', ROOM))
+    lent(Function('close_transport', 'queue::Outputs::close_transport', [], PUSHED % 'closeTransport', ROOM))
+    lent(Function('transport_closed', 'queue::Outputs::transport_closed', [], 'QueueIs {r} (transportClosed (queueOf {q}))', ROOM[:1]))
+    lent(Function('poll_output', 'queue::Outputs::poll_output', [], 'PolledIs {r} (queueOf {q})', ROOM[:1], out='Polled', result='Taken', fields=POLLED))
     for name, args, call in CALLS:
-        relation = 'Answered (%s) {r} {1} {2} {q}' % call
+        relation = 'Answered %s {r} {1} {2} {q}' % call
         lent(Function(name, f'calls::{name}', ['Session', 'Link'] + args, relation, place=2, out='Called', result='Handed', fields=CALLED))
     subprocess.run(['rt', 'fmt'], cwd=ROOT, check=True)
 
