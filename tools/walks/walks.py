@@ -26,15 +26,15 @@ class Function:
     The relation stands in both contracts: {q} the queue before, {1}, {2}, .. the arguments, {r} what the callee returns.
     """
 
-    def __init__(self, name, callee, args, relation, requires=(), place=0, out=None, result=None, fields=()):
+    def __init__(self, name, callee, args, relation, requires=(), place=0, out=None, result=None, fields=(), apart=False):
         self.name, self.relation, self.requires = name, relation, requires
         self.crate, self.callee = callee.split('::', 1)
         self.args = [Argument(i + 1, a) for i, a in enumerate(args)]
         self.queue = Type('Outputs', 'T')
         self.out = Type(out, 'R') if out else self.queue
         self.result = Type(result, 'N') if result else None
-        self.place = place
-        self.parts = [self.queue if t == 'Outputs' else Type(t) for x, t in fields]
+        self.place, self.apart = place, apart
+        self.parts = [(t, self.queue if t == 'Outputs' else Type(t)) for x, t in fields]
         self.fields = [(i, x) for i, (x, t) in enumerate(fields)]
 
     def fill(self, text, q, r='r', xs=None):
@@ -52,14 +52,14 @@ class Function:
         return xs[:self.place] + [queue] + xs[self.place:]
 
     def types(self):
-        return [self.queue] + ([self.out] if self.out is not self.queue else []) + ([self.result] if self.result else []) + self.parts + [a.type for a in self.args]
+        return [self.queue] + ([self.out] if self.out is not self.queue else []) + ([self.result] if self.result else []) + [t for x, t in self.parts] + [a.type for a in self.args]
 
     def cited(self):
         """The modules of the callee and of the function itself."""
         path = f'{home(self.crate, "proofs")}.{self.callee.replace("::", ".")}'
         own = f'{home("lent", "proofs")}.{self.name}'
         return [f'use {path} as cal', f'use {path}.Symbol as cal-def', f'use {path}.Symbol.{{name as #cal}}', f'use {path}.Met as cal-thm',
-                f'use {own}.Key.{{name as #own}}', f'use {own} as fun', f'use {own}.Statement as stated', f'use {own}.Code as code']
+                f'use {own}.Key.{{name as #own}}', f'use {own} as fun', f'use {own}.Statement as stated', f'use {own}.Code as code', f'use {own}.Code.Mir.{{table}}']
 
     def file(self, why, body):
         first = f'-- {why}\n-- Written by tools/walks: a walk of the MIR. All that it knows of `{self.crate}::{self.callee}` is its contract.\n'
@@ -90,21 +90,52 @@ def listed(xs):
     return '(' + ''.join(x + ' ∷ ' for x in xs) + '[])'
 
 
-def plainly(lifetimes, params, locals, steps):
-    """The function's MIR with each type by its own name. The generated one spells them out, by a table of every type below: a walk of that passes the step limit of a declaration."""
+class Named:
+    """A declared type that stands in a function's MIR: how the text calls it, its name here, its symbol, and for a struct that is read field by field the types of its fields."""
+
+    def __init__(self, x, type, parts=(), apart=False):
+        self.apart = apart
+        self.x, self.name, self.symbol, self.parts = x, 'given' if parts else type.mir, type.symbol, parts
+
+    def lemma(self):
+        """The table spells it so: computed at once or, where that passes the step limit, field by field (`apart`). Each of the two ways is too long where the other is taken."""
+        if not self.parts:
+            return f'''
+{self.x}-is : spell table (tyNamed ({symbol(self.symbol)}, [])) ≡ {self.name}
+{self.x}-is = refl
+'''
+        fields = lambda each: ''.join(f'(tcons {each(p)} ' for p in self.parts) + 'tnil' + ')' * len(self.parts)
+        struct = lambda each: f'tyStruct ({symbol(self.symbol)}) {fields(each)}'
+        return f'''
+abbrev {self.name} : Ty
+{self.name} = {struct(lambda p: p.name)}
+
+{self.x}-is : spell table (tyNamed ({symbol(self.symbol)}, [])) ≡ {self.name}
+{self.x}-is {'i = ' + struct(lambda p: f'({p.x}-is i)' if p.symbol else p.name) if self.apart else '= refl'}
+'''
+
+
+def plainly(lifetimes, params, types, locals, steps, parts=()):
+    """The function's MIR with each type by its own name. The generated one spells every type out by a table of all that is below it: a walk of that passes the step limit of a declaration."""
+    lemmas = ''.join(t.lemma() for t in list(parts) + types)
     return f'''
--- the MIR, each type by its name
-abbrev plainly : Fn
-plainly = record {{
+-- the types that stand in the MIR, as its table spells them
+{lemmas.lstrip()}
+-- the MIR over those types
+abbrev shaped : {'Ty → ' * len(types)}Fn
+shaped {' '.join(t.x for t in types)} = record {{
   lifetimes = {lifetimes};
   outlives = [];
   params = {params};
-  locals = {listed([f'local {t} valueLocal' for t in locals])};
+  locals = {listed(locals)};
   body = {''.join(f'seq ({s}) (' for s in steps)}return{')' * len(steps)};
 }}
 
-plainly-is : plainly ≡ code.function
-plainly-is = refl
+abbrev plainly : Fn
+plainly = shaped {' '.join(t.name for t in types)}
+
+code-is : code.function ≡ plainly
+code-is i = shaped {' '.join(f'({t.x}-is i)' for t in types)}
 '''
 
 
@@ -133,7 +164,7 @@ def closing(f, meets):
     return f'''
 meets : {LOGIC} → Given 𝓤 H A → {RUN} (𝓣 : Tables 𝓤 H) → Triple 𝓤 (𝓣 .C #cal) ({CAL})
     → Meets 𝓤 H A fun.signature (WpFn 𝓤 H (𝓣 .C) (𝓣 .Λ) code.function) (fun.spec 𝓤 H A at-mem run)
-meets 𝓤 H A W at-mem run 𝓣 known = subst (λ (f : Fn). Meets 𝓤 H A fun.signature (WpFn 𝓤 H (𝓣 .C) (𝓣 .Λ) f) (fun.spec 𝓤 H A at-mem run)) plainly-is
+meets 𝓤 H A W at-mem run 𝓣 known = subst (λ (f : Fn). Meets 𝓤 H A fun.signature (WpFn 𝓤 H (𝓣 .C) (𝓣 .Λ) f) (fun.spec 𝓤 H A at-mem run)) (sym code-is)
     (walk-meets 𝓤 H A fun.ended stayed W {meets} {CLAUSES} (WpFn 𝓤 H (𝓣 .C) (𝓣 .Λ) plainly) (WpFn-mono 𝓤 H (W .laws) 𝓣 plainly)
     (walks 𝓤 H A W at-mem run (𝓣 .C) (𝓣 .Λ) (fmOf 𝓤 H (W .laws) 𝓣) known))
 
@@ -180,24 +211,25 @@ stayed = (stay-ref (0 ∷ []) tt (plain (λ _. {Q.row})), {pairs([f'stay-none (�
 abbrev qv : Outputs → Val
 qv h = {Q.value('h')}
 '''
-    home_of = f'deref {Q.mir}'
+    home_of = 'deref τq'
     given_by = lambda *path: local_copy(n - 1, *path)
     if N:
         answer = 'aggregate ' + listed([given_by(f'field {i}') for i, x in f.fields if x != 'queue'])
         stored = given_by(*[f'field {i}' for i, x in f.fields if x == 'queue'])
     else:
         answer, stored = 'rvOpd opdUnit', given_by()
+    types = {a.type.name: Named(f'τ{a.x}', a.type) for a in f.args if a.type.symbol}
+    types['Outputs'] = Named('τq', Q)
+    seen = list(types.values())
+    parts = [types.get(x) or Named(f'τ{x}', t) for x, t in f.parts]
     if N:
-        body += f'''
--- the type of what the callee returns, field by field
-abbrev given : Ty
-given = tyStruct ({symbol(R.symbol)}) {''.join(f'(tcons {t.mir} ' for t in f.parts)}tnil{')' * len(f.parts)}
-'''
-    body += plainly(1, k + 1, [N.mir if N else 'tyUnit', LENT] + [a.type.mir for a in f.args] + [Q.mir, 'given' if N else R.mir], [
+        seen += [Named('τ0', N), Named('τr', R, parts, f.apart)]
+    kinds = ['τ0' if N else 'tyUnit', LENT] + [types[a.type.name].x if a.type.symbol else a.type.mir for a in f.args] + ['τq', 'τr' if N else 'τq']
+    body += plainly(1, k + 1, seen, [f'local {t} valueLocal' for t in kinds], [
         f'assign (place {k + 2} []) (rvOpd ({local_copy(1, home_of)}))',
         f'call #cal {listed(f.passed(local_copy(k + 2), lambda a: local_copy(f.args.index(a) + 2)))} (place {n - 1} [])',
         f'assign (place 1 ({home_of} ∷ [])) (rvOpd ({stored}))',
-        f'assign (place 0 []) ({answer})'])
+        f'assign (place 0 []) ({answer})'], [p for p in parts if f.apart and p.symbol and p not in seen])
     if N:
         owed = lambda i: f'LL.owed {R.both} r vs is{step(i)}'
         queue_at = [i for i, x in f.fields if x == 'queue'][0]
@@ -288,12 +320,12 @@ module _ {LOGIC} (W : Given 𝓤 H A) {RUN} (κ : Lft) (q : Share) (b o : ℕ) (
         assigns ! (of-opd ! (unit-lit !)) (from ! (stop !)) (init ! {far(0)} refl (tt, tt)) $
         move ! (1 ∷ 0 ∷ []) $ closes ! tt {Q.row} r (v ∷ []) b o $
 '''
-    seen = lambda i: 3 + at(i)
+    left = lambda i: 3 + at(i)
     apps = ''.join(f' (a{step(i + 1)}) (are{step(i + 1)})' for i in range(k))
     call = f'walk 𝓤 H A W at-mem run (κs .0) (qs .0) (a .0 .ptr .0) (a .0 .ptr .1) (a .0 .name) (a .0 .now){apps} C Λ fm known'
     body += f'''        -- [obs; the borrow; the token; the locals, last first]
-        returns ! (look ! {seen(0)} refl) $ {' '.join(f'forget ! {seen(i)} refl $' for i in reversed(range(n)))}
-        {' '.join(f'move ! ({seen(i)} ∷ {seen(i) + 1} ∷ []) $ free1 ! $' for i in range(n))} free0 ! $
+        returns ! (look ! {left(0)} refl) $ {' '.join(f'forget ! {left(i)} refl $' for i in reversed(range(n)))}
+        {' '.join(f'move ! ({left(i)} ∷ {left(i) + 1} ∷ []) $ free1 ! $' for i in range(n))} free0 ! $
         keep ! (0 ∷ 1 ∷ 2 ∷ []) $ by ! (exits r {"is′ " if N else ""}e){')' * (n + 6 + (1 if N else 0))}
 
 module _ {LOGIC} (W : Given 𝓤 H A) {RUN} where
@@ -336,7 +368,7 @@ def main():
     lent(Function('event', 'queue::Outputs::event', ['Event'], PUSHED % 'event {1}', ROOM))
     lent(Function('close_transport', 'queue::Outputs::close_transport', [], PUSHED % 'closeTransport', ROOM))
     lent(Function('transport_closed', 'queue::Outputs::transport_closed', [], 'QueueIs {r} (transportClosed (queueOf {q}))', ROOM[:1]))
-    lent(Function('poll_output', 'queue::Outputs::poll_output', [], 'PolledIs {r} (queueOf {q})', ROOM[:1], out='Polled', result='Taken', fields=POLLED))
+    lent(Function('poll_output', 'queue::Outputs::poll_output', [], 'PolledIs {r} (queueOf {q})', ROOM[:1], out='Polled', result='Taken', fields=POLLED, apart=True))
     for name, args, call in CALLS:
         relation = 'Answered %s {r} {1} {2} {q}' % call
         lent(Function(name, f'calls::{name}', ['Session', 'Link'] + args, relation, place=2, out='Called', result='Handed', fields=CALLED))
