@@ -57,14 +57,14 @@ class Function:
     def cited(self):
         """The modules of the callee and of the function itself."""
         path = f'{home(self.crate, "proofs")}.{self.callee.replace("::", ".")}'
-        own = f'{home("lent", "proofs")}.{self.name}'
+        own = f'{home("lent", "proofs")}.{self.name.replace("::", ".")}'
         return [f'use {path} as cal', f'use {path}.Symbol as cal-def', f'use {path}.Symbol.{{name as #cal}}', f'use {path}.Met as cal-thm',
                 f'use {own}.Key.{{name as #own}}', f'use {own} as fun', f'use {own}.Statement as stated', f'use {own}.Code as code', f'use {own}.Code.Mir.{{table}}']
 
     def file(self, why, body):
         first = f'-- {why}\n-- Written by tools/walks: a walk of the MIR. All that it knows of `{self.crate}::{self.callee}` is its contract.\n'
         text = first + '\n'.join(imports(body, self.types()) + self.cited()) + '\n\n' + body
-        path = ROOT / 'crates/lent/proofs' / self.name / 'Proof.antt'
+        path = ROOT / 'crates/lent/proofs' / self.name.replace('::', '/') / 'Proof.antt'
         path.parent.mkdir(parents=True, exist_ok=True)
         path.write_text(text)
 
@@ -161,6 +161,7 @@ def learned(f, queue, xs, walk):
 def closing(f, meets):
     """What every walk ends with: the function meets its contract, given that its callee meets its own."""
     calls = f'{f.crate}·{f.callee}'.replace('::', '·').replace('_', '-')
+    spec = f.name.split('::')[-1].replace('_', '-') + '-spec'
     return f'''
 meets : {LOGIC} → Given 𝓤 H A → {RUN} (𝓣 : Tables 𝓤 H) → Triple 𝓤 (𝓣 .C #cal) ({CAL})
     → Meets 𝓤 H A fun.signature (WpFn 𝓤 H (𝓣 .C) (𝓣 .Λ) code.function) (fun.spec 𝓤 H A at-mem run)
@@ -168,9 +169,9 @@ meets 𝓤 H A W at-mem run 𝓣 known = subst (λ (f : Fn). Meets 𝓤 H A fun.
     (walk-meets 𝓤 H A fun.ended stayed W {meets} {CLAUSES} (WpFn 𝓤 H (𝓣 .C) (𝓣 .Λ) plainly) (WpFn-mono 𝓤 H (W .laws) 𝓣 plainly)
     (walks 𝓤 H A W at-mem run (𝓣 .C) (𝓣 .Λ) (fmOf 𝓤 H (W .laws) 𝓣) known))
 
-pub {f.name.replace('_', '-')}-spec : {{M : Type 1}} → stated.statement M
+pub {spec} : {{M : Type 1}} → stated.statement M
 unfolding code.routine tablesOf
-{f.name.replace('_', '-')}-spec 𝓤 H 𝓜 𝓖 𝓡 =
+{spec} 𝓤 H 𝓜 𝓖 𝓡 =
     entered 𝓤 H (tripleOf 𝓤 H (𝓖 .A) fun.signature (fun.spec 𝓤 H (𝓖 .A) (𝓜 .mem) (𝓡 .run)))
     (tables 𝓤 H 𝓜 𝓡 code.env .C) (tables 𝓤 H 𝓜 𝓡 code.env .Λ) #own code.function (code.unfolded 𝓤 H 𝓜 𝓡)
     (meets 𝓤 H (𝓖 .A) (givenOf 𝓤 H 𝓜 𝓖) (𝓜 .mem) (𝓡 .run) (tablesOf 𝓤 H 𝓜 (tables 𝓤 H 𝓜 𝓡 code.env))
@@ -342,6 +343,124 @@ module _ {LOGIC} (W : Given 𝓤 H A) {RUN} where
     f.file(f'The queue is taken out and passed to `{f.crate}::{f.callee}`; {stored}, so that the one relation holds of both.', body)
 
 
+def held(f):
+    """fn F(queue: Outputs, ..) -> OUT { let mut t = queue; let a = CALLEE(&mut t, ..); OUT { x: a.x, queue: t, .. } }"""
+    Q, R, N = f.queue, f.out, f.result
+    k = len(f.args)
+    n = k + 6                                   # locals: _0, the queue, the arguments, t, what the call gives, the reference, a copy of t
+    t, a, ref, copied = k + 2, k + 3, k + 4, k + 5
+    first = lambda i: 2 * (n - 1 - i)           # where local i stands after the allocations
+    at = lambda i, before: first(i) + before - (first(i) > first(t))  # once t's cell is taken out, with so many items before the locals
+    kept = [x for i, x in f.fields if x != 'queue']
+    xs = pairs([y.x for y in f.args])
+    values = pairs([f'{y.value} ∷ []' for y in f.args])
+    told = ''.join(f' ({y.x} : {y.type.name}) ({y.told} : Is {y.type.row} {y.x} ({y.value} ∷ []))' for y in f.args)
+    entry = f"(qv h ∷ {''.join(y.value + ' ∷ ' for y in f.args)}[])"
+    own_queue = Q.owned('h', 'h-is')
+    make = 'nothing ! $ ' + joined([y.owned for y in f.args])
+    relation = f.fill(f.relation, 'h', '(called a (ws .0))')
+    types = {y.type.name: Named(f'τ{y.x}', y.type) for y in f.args if y.type.symbol}
+    types['Outputs'] = Named('τq', Q)
+    parts = [types.get(x) or Named(f'τ{x}', p) for (i, field), (x, p) in zip(f.fields, f.parts) if field != 'queue']
+    seen = list(types.values()) + [Named('τ0', R), Named('τr', N, parts)]
+    kinds = ['τ0', 'τq'] + [types[y.type.name].x if y.type.symbol else y.type.mir for y in f.args] + ['τq', 'τr', LENT.replace('(named 0)', 'erased'), 'τq']
+    made = listed([local_copy(copied) if x == 'queue' else local_copy(a, f'field {kept.index(x)}') for i, x in f.fields])
+    body = f'''abbrev stayed : Stays (fun.ended .signature .params) (fun.ended .kept)
+stayed = (stay-none (λ _. {Q.row}) yes, {pairs([f'stay-none (λ _. {y.type.row}) yes' for y in f.args])})
+
+abbrev qv : Outputs → Val
+qv h = {Q.value('h')}
+{plainly(0, k + 1, seen, [f"local {x} {'memorySlot' if i == t else 'valueLocal'}" for i, x in enumerate(kinds)], [
+        f'assign (place {t} []) (rvOpd ({local_copy(1)}))',
+        f'assign (place {ref} []) (addrOf (place {t} []))',
+        f'call #cal {listed([local_copy(ref)] + [local_copy(i + 2) for i in range(k)])} (place {a} [])',
+        f'assign (place {copied} []) (rvOpd ({local_copy(t)}))',
+        f'assign (place 0 []) (aggregate {made})'])}
+-- the queue in a local, lent under a name
+abbrev at-name : ℕ → GName → Outputs → RefT Outputs
+at-name l δ h = record {{ ptr = (l, 0); name = δ; now = h }}
+
+abbrev nv : {N.name} → Val
+nv a = {N.value('a')}
+
+abbrev rv : {N.name} → Outputs → Val
+rv a h = {R.value('(called a h)')}
+
+called-is : (a : {N.name}) (h : Outputs) → Is {N.row} a (nv a ∷ []) → Is {Q.row} h (qv h ∷ []) → Is {R.row} (called a h) (rv a h ∷ [])
+called-is a h is isq = LL.owes {R.both} (called a h) {pairs(['isq' if x == 'queue' else f'LL.owed {N.both} a _ is{step(kept.index(x))}' for i, x in f.fields])}
+
+module _ {LOGIC} {RUN} where
+  abbrev Cal : Contract 𝓤
+  Cal = tripleOf 𝓤 H A cal.signature (cal.spec 𝓤 H A at-mem run)
+
+module _ {LOGIC} (W : Given 𝓤 H A) {RUN} (h : Outputs) (h-is : Is {Q.row} h (qv h ∷ [])){told} where
+  abbrev x : Outputs × ({product([y.type.name for y in f.args])})
+  x = (h, {xs})
+
+  abbrev at : List Val × ({product(['List Val'] * k)})
+  at = (qv h ∷ [], {values})
+
+  abbrev Post : Val → SProp 𝓤
+  Post = walkOf 𝓤 H A fun.ended stayed {CLAUSES} .post ((tt, tt, tt, x, at), tt)
+
+  -- with the queue taken back, the callee's relation is the function's own
+  exits : (a : {N.name}) (z : Outputs) → Is {N.row} a (nv a ∷ []) → Is {Q.row} z (qv z ∷ []) → {f.fill(f.relation, 'h', '(called a z)')} → ent 𝓤 (emp 𝓤) (Post (rv a z))
+  exits a z is isq e =
+      qed W [] ∵
+      suffices ! _ (ends-at 𝓤 H A fun.ended stayed {CLAUSES} W ((tt, tt, tt, x, at), tt) (rv a z) (called a z) (tt, {pairs(['tt'] * k)}) (tt, {pairs(['tt'] * k)})) $ says ! e $
+      {R.owned('(called a z)', '(called-is a z is isq)')}{make}{own_queue}fjoin ! $ nothing ! $ done !
+
+  abbrev to : ℕ → ℕ → GName → {CAL} .Ghost
+  to α l δ = (((α ∷ [], tt), (fullShare, tt), tt, (at-name l δ h, {xs}), (vptr l 0 ∷ [], {values})), tt)
+
+  goes-to : (α l : ℕ) (δ : GName) → ent 𝓤 (sep 𝓤 (A .lft (α ∷ []) fullShare) (sem 𝓤 H A (MutRef (named 0) (α ∷ []) {Q.row} .own (at-name l δ h) (vptr l 0 ∷ [])))) ({CAL} .pre (to α l δ))
+  goes-to α l δ =
+      qed W (‵ (flft (α ∷ []) fullShare) ∷ ‵ (MutRef (named 0) (α ∷ []) {Q.row} .own (at-name l δ h) (vptr l 0 ∷ [])) ∷ []) ∵ nothing ! $ move ! (1 ∷ 0 ∷ []) $ join ! $
+      {make}move ! (2 ∷ 0 ∷ []) $ fjoin ! $ move ! (1 ∷ 0 ∷ []) $ join ! $ frame ! $ done !
+
+  module _ (C : Calls 𝓤 H) (Λ : Loops 𝓤 H) (fm : FmC 𝓤 H (W .laws) C) (known : Triple 𝓤 (C #cal) ({CAL})) where
+    walk : ent 𝓤 (onEntry 𝓤 H A fun.signature tt tt x at) (WpFn 𝓤 H C Λ plainly {entry} Post)
+    walk =
+        qed W (‵ ftrue ∷ ‵ (owns ({Q.row} ∷ {''.join(y.type.row + ' ∷ ' for y in f.args)}[]) x at) ∷ []) ∵ keep ! [] $ enter ! C Λ plainly {entry} _ $
+        {''.join(f'alloc1 ! (λ l{i}. ' for i in range(n))}alloc0 ! $ params1 ! $ pass1 ! (init ! {first(1)} refl {Q.typed('h', 'h-is')}) $ {''.join(f'pass1 ! (init ! {first(i + 2)} refl {y.typed}) $ ' for i, y in enumerate(f.args))}pass0 ! $
+        assigns ! (of-opd ! (load ! (from ! (stop !)) (look ! {first(1)} refl))) (from ! (stop !)) (init ! {first(t)} refl {Q.typed('h', 'h-is')}) $
+        assigns ! (addr ! (from ! (stop !))) (from ! (stop !)) (init ! {first(ref)} refl (tt, tt)) $
+        -- the queue is lent for a lifetime of the call
+        {own_queue}move ! ({first(t) + 1} ∷ 0 ∷ []) $ use2 W (‵ (mem {Q.row} .lies h l{t} 0)) (lies-in 𝓤 H A W {Q.both} h _ l{t}) $ lft-new ! tt (λ α. move ! (1 ∷ []) $
+        use1 W (later (some (λ (δ : GName). ‵ (MutRef (named 0) (α ∷ []) {Q.row} .own (at-name l{t} δ h) (vptr l{t} 0 ∷ [])) ⊛ ‵ (flent (α ∷ []) (Body (mem {Q.row}) l{t} 0 δ))))) (lends-ref 𝓤 H A W {Q.row} (named 0) (α ∷ []) h l{t} 0) $ await ! tt $ pick ! (λ δ. split ! $
+        move ! (2 ∷ 0 ∷ []) $ use2 W (raw ({CAL} .pre (to α l{t} δ))) (goes-to α l{t} δ) $
+        -- [what the callee asks; the lender's part; the locals after t, last first; what frees t; the arguments, last first; the queue; …; room for _0; …]
+        calls-at ! fm ({CAL}) known (to α l{t} δ) {loads([at(ref, 2)] + [at(i + 2, 2) for i in range(k)])} (λ w.
+        use1 W (later (some (λ (r : {N.name}). ((‵ (flft (α ∷ []) fullShare) ⊛ ‵ ftrue) ⊛ ‵ ({N.row} .own r (w ∷ []))) ⊛ raw (ensured 𝓤 H A cal.ended (cal.clauses 𝓤 H A at-mem run) (α ∷ [], tt) (at-name l{t} δ h, {xs}) tt r)))) (id⊢ 𝓤 _) $ await ! tt $ pick ! (λ a.
+        split ! $ move ! (1 ∷ []) $ use1 W (some (λ (ws : Outputs × ({product(['Unit {0}'] * k)})). ‵ (lasts cal.ended (α ∷ [], tt) (at-name l{t} δ h, {xs}) ws) ⊛ raw (fact 𝓤 ({relation})))) (id⊢ 𝓤 _) $ pick ! (λ ws.
+        split ! $ move ! (1 ∷ []) $ heard ! ({relation}) (λ e. fsplit ! $ move ! (2 ∷ []) $ split ! $ move ! (1 ∷ []) $
+        {N.peeked('a', 'w')} (λ wis.
+        land ! (from ! (stop !)) (init ! {at(a, 5)} refl {N.typed('a', 'wis')}) $
+        rewrite ! {at(a, 5)} (λ (u : Val). ‵ (fat fullShare given l{a} 0 u)) (ap only ({N.tells} a _ wis)) refl $
+        rewrite ! 0 (λ (u : Val). ‵ ({N.row} .own a (u ∷ []))) (ap only ({N.tells} a _ wis)) refl $
+        {N.peeked('a', 'nv a')} (λ is. drop ! $
+        -- the lifetime ends, and the queue is had back at its last value
+        split ! $ lft-end ! tt $ move ! (0 ∷ 4 ∷ 2 ∷ []) $ use3 W (later (‵ (mem {Q.row} .lies (ws .0) l{t} 0))) (ref-back 𝓤 H A W {Q.row} (α ∷ []) δ (ws .0) l{t} 0) $ await ! tt $ move ! (1 ∷ []) $ drop ! $ move ! (1 ∷ []) $ drop ! $
+        use1 W (‵ (fat fullShare {Q.mir} l{t} 0 (qv (ws .0))) ⊛ ‵ ({Q.row} .own (ws .0) (qv (ws .0) ∷ []))) (lies-out 𝓤 H A W {Q.both} (ws .0) l{t}) $ split ! $
+        -- [t; what it owns; the locals after t, last first; what frees t; …]
+        move ! (1 ∷ []) $ {Q.peeked('(ws .0)', 'qv (ws .0)')} (λ isq. move ! (1 ∷ 0 ∷ []) $
+        assigns ! (of-opd ! (load ! (from ! (stop !)) (look ! 0 refl))) (from ! (stop !)) (init ! {at(copied, 2)} refl {Q.typed('(ws .0)', 'isq')}) $
+        assigns ! (agg ! {''.join(f'(and-then ! (load ! (from ! (stop !)) (look ! {at(copied, 2)} refl)) ' if x == 'queue' else f'(and-then ! (load ! (from ! (fld ! refl (stop !))) (look-in ! {at(a, 2)} (sub ! {kept.index(x)} refl (whole !)))) ' for i, x in f.fields)}(no-more !){')' * len(f.fields)}) (from ! (stop !)) (init ! {at(0, 2)} refl {R.typed('(called a (ws .0))', '(called-is a (ws .0) is isq)')}) $
+        returns ! (look ! {at(0, 2)} refl) $ forget ! 0 refl $ {' '.join(f'forget ! {at(i, 2)} refl $' for i in reversed(range(n)) if i != t)}
+        {' '.join(f'move ! (0 ∷ {first(t) + 2} ∷ []) $ free1 ! $' if i == t else f'move ! ({at(i, 2) - (i > t)} ∷ {at(i, 2) - (i > t) + 1} ∷ []) $ free1 ! $' for i in range(n))} free0 ! $
+        keep ! [] $ by ! (exits a (ws .0) is isq e){')' * (n + 9)}
+
+module _ {LOGIC} (W : Given 𝓤 H A) {RUN} where
+  walks : (C : Calls 𝓤 H) (Λ : Loops 𝓤 H) → FmC 𝓤 H (W .laws) C → Triple 𝓤 (C #cal) ({CAL}) → Walks 𝓤 H A fun.ended stayed (WpFn 𝓤 H C Λ plainly) {CLAUSES}
+  walks C Λ fm known = walked 𝓤 H A fun.ended stayed {CLAUSES} (WpFn 𝓤 H C Λ plainly)
+      (λ κs. ({Q.vals}, {pairs([y.type.vals for y in f.args])})) (λ κs. ({Q.tells}, {pairs([y.type.tells for y in f.args])}))
+      (λ κs qs bounds a g are. via 𝓤 _ (fst∗ 𝓤 _ (emp 𝓤)) (walk 𝓤 H A W at-mem run (a .0) (are .0){''.join(f' (a{step(i + 1)}) (are{step(i + 1)})' for i in range(k))} C Λ fm known))
+'''
+    rows = [Q.row] + [y.type.row for y in f.args]
+    body += closing(f, pairs([f'goes-none 𝓤 H A W 0 (λ _. {x}) yes (λ κs x f. refl)' for x in rows]))
+    f.file(f'The queue is lent to `{f.crate}::{f.callee}` for the time of the call and had back at its last value, of which and of what was handed back the callee says the one relation.', body)
+
+
 ROOM = ('OutsWf {q}', 'length (queueOf {q} .outs) < 32')
 PUSHED = 'QueueIs {r} (queued (queueOf {q}) (%s ∷ []))'
 POLLED = [('queue', 'Outputs'), ('output', 'Output'), ('some', 'bool')]
@@ -372,6 +491,7 @@ def main():
     for name, args, call in CALLS:
         relation = 'Answered %s {r} {1} {2} {q}' % call
         lent(Function(name, f'calls::{name}', ['Session', 'Link'] + args, relation, place=2, out='Called', result='Handed', fields=CALLED))
+        held(Function(f'held::{name}', f'lent::{name}', ['Session', 'Link'] + args, relation, out='Called', result='Handed', fields=CALLED))
     subprocess.run(['rt', 'fmt'], cwd=ROOT, check=True)
 
 

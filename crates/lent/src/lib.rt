@@ -25,6 +25,8 @@ use types::output::Event;
 use types::output::Output;
 use types::reasons::Reason;
 
+pub mod held;
+
 /// What a call hands back: all but the queue, which the caller has.
 pub struct Handed {
     pub session: Session,
