@@ -2,7 +2,7 @@
 """Writes the proofs of crates/lent, each a walk of its function's MIR. See README.md."""
 import pathlib
 import subprocess
-from words import Argument, Type, home, imports
+from words import ENUMS, STRUCTS, Argument, Type, home, imports
 
 ROOT = pathlib.Path(__file__).resolve().parents[2]
 
@@ -75,15 +75,13 @@ CAL = 'Cal 𝓤 H A at-mem run'
 CLAUSES = '(fun.clauses 𝓤 H A at-mem run)'
 
 
-def symbol(name):
-    return ' ∷ '.join(str(ord(c)) for c in name) + ' ∷ []'
-
-
-LENT = f'(tyRef (named 0) mut (tyNamed ({symbol("queue::Outputs")}, [])))'
+def lent_at(lifetime):
+    return f'(tyRef {lifetime} mut (tyNamed (Outputs-symbol, [])))'
 
 
 def local_copy(i, *path):
-    return f"copy (place {i} ({''.join(p + ' ∷ ' for p in path)}[]))"
+    steps = ''.join(p + ' ∷ ' for p in path) + '[]'
+    return f'copy (place {i} {f"({steps})" if path else steps})'
 
 
 def listed(xs):
@@ -101,16 +99,16 @@ class Named:
         """The table spells it so: computed at once or, where that passes the step limit, field by field (`apart`). Each of the two ways is too long where the other is taken."""
         if not self.parts:
             return f'''
-{self.x}-is : spell table (tyNamed ({symbol(self.symbol)}, [])) ≡ {self.name}
+{self.x}-is : spell table (tyNamed ({self.symbol}, [])) ≡ {self.name}
 {self.x}-is = refl
 '''
         fields = lambda each: ''.join(f'(tcons {each(p)} ' for p in self.parts) + 'tnil' + ')' * len(self.parts)
-        struct = lambda each: f'tyStruct ({symbol(self.symbol)}) {fields(each)}'
+        struct = lambda each: f'tyStruct {self.symbol} {fields(each)}'
         return f'''
 abbrev {self.name} : Ty
 {self.name} = {struct(lambda p: p.name)}
 
-{self.x}-is : spell table (tyNamed ({symbol(self.symbol)}, [])) ≡ {self.name}
+{self.x}-is : spell table (tyNamed ({self.symbol}, [])) ≡ {self.name}
 {self.x}-is {'i = ' + struct(lambda p: f'({p.x}-is i)' if p.symbol else p.name) if self.apart else '= refl'}
 '''
 
@@ -140,12 +138,11 @@ code-is i = shaped {' '.join(f'({t.x}-is i)' for t in types)}
 
 
 def asked(f):
-    """The callee's and the function's own `requires`, one or two: learned, shown, and as an arrow's domain."""
+    """The `requires` of the callee and of the function itself, none to two of them: their names, as the domain of an arrow, and shown to the callee."""
     names = ['asks', 'also'][:len(f.requires)]
-    at = lambda q, xs=None: [f.fill(p, q, xs=xs) for p in f.requires]
-    arrow = ''.join(f'{p} → ' for p in at('h'))
+    arrow = ''.join(f'{f.fill(p, "h")} → ' for p in f.requires)
     show = ['', 'says ! asks $ ', 'says-both ! asks also $ '][len(names)]
-    return ' '.join(names), arrow, show
+    return ''.join(f' {n}' for n in names), arrow, show
 
 
 def learned(f, queue, xs, walk):
@@ -225,7 +222,7 @@ qv h = {Q.value('h')}
     parts = [types.get(x) or Named(f'τ{x}', t) for x, t in f.parts]
     if N:
         seen += [Named('τ0', N), Named('τr', R, parts, f.apart)]
-    kinds = ['τ0' if N else 'tyUnit', LENT] + [types[a.type.name].x if a.type.symbol else a.type.mir for a in f.args] + ['τq', 'τr' if N else 'τq']
+    kinds = ['τ0' if N else 'tyUnit', lent_at('(named 0)')] + [types[a.type.name].x if a.type.symbol else a.type.mir for a in f.args] + ['τq', 'τr' if N else 'τq']
     body += plainly(1, k + 1, seen, [f'local {t} valueLocal' for t in kinds], [
         f'assign (place {k + 2} []) (rvOpd ({local_copy(1, home_of)}))',
         f'call #cal {listed(f.passed(local_copy(k + 2), lambda a: local_copy(f.args.index(a) + 2)))} (place {n - 1} [])',
@@ -285,11 +282,11 @@ module _ {LOGIC} (W : Given 𝓤 H A) {RUN} (κ : Lft) (q : Share) (b o : ℕ) (
   to = ((tt, tt, tt, {to_callee}, {values}), tt)
 
   goes-to : {arrow}ent 𝓤 (sem 𝓤 H A ({Q.row} .own h (qv h ∷ []))) ({CAL} .pre to)
-  goes-to {names} = qed W (‵ ({Q.row} .own h (qv h ∷ [])) ∷ []) ∵ {show}{make}move ! (1 ∷ 0 ∷ []) $ fjoin ! $ {joined([a.owned for a in before])}nothing ! $ {'' if names else 'join ! $ '}frame ! $ done !
+  goes-to{names} = qed W (‵ ({Q.row} .own h (qv h ∷ [])) ∷ []) ∵ {show}{make}move ! (1 ∷ 0 ∷ []) $ fjoin ! $ {joined([a.owned for a in before])}nothing ! $ {'' if names else 'join ! $ '}frame ! $ done !
 
   module _ (C : Calls 𝓤 H) (Λ : Loops 𝓤 H) (fm : FmC 𝓤 H (W .laws) C) (known : Triple 𝓤 (C #cal) ({CAL})) where
     walk : {arrow}ent 𝓤 (onEntry 𝓤 H A fun.signature (κ, tt) (q, tt) x at) (WpFn 𝓤 H C Λ plainly {entry} Post)
-    walk {names} =
+    walk{names} =
         qed W ((‵ (flft κ q) ⊛ ‵ ftrue) ∷ ‵ (owns (MutRef (named 0) κ {Q.row} ∷ {''.join(a.type.row + ' ∷ ' for a in f.args)}[]) x at) ∷ []) ∵ split ! $ move ! (2 ∷ []) $ fsplit ! $ fsplit3 ! $ drop ! $ move ! (0 ∷ 1 ∷ 3 ∷ []) $
         -- [obs; the borrow; the token; what the arguments own; true]
         enter ! C Λ plainly {entry} _ $
@@ -298,7 +295,7 @@ module _ {LOGIC} (W : Given 𝓤 H A) {RUN} (κ : Lft) (q : Share) (b o : ℕ) (
         move ! (1 ∷ []) $ {Q.peeked('h', 'qv h')} (λ g. move ! (1 ∷ 0 ∷ []) $
         -- [the cell; what the queue owns; the open borrow; obs; auth; what the call gives; …; t; …; the arguments, last first; the reference; …; room for _0; …]
         assigns ! (of-opd ! (load ! (from ! (hop ! (look ! {far(1)} refl) (stop !))) (look-raw ! 0 refl))) (from ! (stop !)) (init ! {far(k + 2)} refl {Q.typed('h', 'g')}) $
-        move ! (1 ∷ []) $ use1 W (raw ({CAL} .pre to)) (goes-to {names}) $
+        move ! (1 ∷ []) $ use1 W (raw ({CAL} .pre to)) (goes-to{names}) $
         calls-at ! fm ({CAL}) known to {loads(f.passed(far(k + 2), lambda a: far(f.args.index(a) + 2)))} (λ v.
         use1 W (later (some (λ (r : {R.name}). (‵ ftrue ⊛ ‵ ({R.row} .own r (v ∷ []))) ⊛ raw (ensured 𝓤 H A cal.ended (cal.clauses 𝓤 H A at-mem run) tt {to_callee} tt r)))) (id⊢ 𝓤 _) $ await ! tt $ pick ! (λ r.
         split ! $ move ! (1 ∷ []) $ use1 W (raw (fact 𝓤 ({f.said()}))) (said 𝓤 H A at-mem run h{words} r) $ heard ! ({f.said()}) (λ e. split ! $ drop ! $
@@ -363,7 +360,7 @@ def held(f):
     types['Outputs'] = Named('τq', Q)
     parts = [types.get(x) or Named(f'τ{x}', p) for (i, field), (x, p) in zip(f.fields, f.parts) if field != 'queue']
     seen = list(types.values()) + [Named('τ0', R), Named('τr', N, parts)]
-    kinds = ['τ0', 'τq'] + [types[y.type.name].x if y.type.symbol else y.type.mir for y in f.args] + ['τq', 'τr', LENT.replace('(named 0)', 'erased'), 'τq']
+    kinds = ['τ0', 'τq'] + [types[y.type.name].x if y.type.symbol else y.type.mir for y in f.args] + ['τq', 'τr', lent_at('erased'), 'τq']
     made = listed([local_copy(copied) if x == 'queue' else local_copy(a, f'field {kept.index(x)}') for i, x in f.fields])
     body = f'''abbrev stayed : Stays (fun.ended .signature .params) (fun.ended .kept)
 stayed = (stay-none (λ _. {Q.row}) yes, {pairs([f'stay-none (λ _. {y.type.row}) yes' for y in f.args])})
@@ -481,7 +478,17 @@ CALLS = [
 ]
 
 
+def symbols():
+    """The names of the declared types as MIR has them."""
+    lines = ['-- The names of the declared types that the walks meet, as MIR has them: each a list of characters. Written by tools/walks.', 'use mathlib.Core.List.{[], _∷_}', 'use mir.Syntax.{Sym}']
+    for name, (crate, path) in sorted({**STRUCTS, **ENUMS}.items()):
+        text = f'{crate}::{path}'.replace('.', '::')
+        lines += ['', f'-- {text}', f'abbrev pub {name}-symbol : Sym', f'{name}-symbol = ' + ' ∷ '.join(str(ord(c)) for c in text) + ' ∷ []']
+    (ROOT / 'crates/lent/proofs/Symbols.antt').write_text('\n'.join(lines) + '\n')
+
+
 def main():
+    symbols()
     lent(Function('push', 'queue::Outputs::push', ['Output'], PUSHED % '{1}', ROOM))
     lent(Function('send', 'queue::Outputs::send', ['SessionMessage'], PUSHED % 'send {1}', ROOM))
     lent(Function('event', 'queue::Outputs::event', ['Event'], PUSHED % 'event {1}', ROOM))

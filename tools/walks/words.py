@@ -39,7 +39,7 @@ class Type:
         self.name, self.row, self.mir, self.both = name, f'{short}.the-row', f'{short}′.mir', both
         self.vals, self.tells, self.makes = f'{laws}.vals {both}', f'{laws}.tells {both}', f'{laws}.makes {short}.the-type {short}′.the-plain 𝓤 H A'
         self.lawful, self.val = (f'EL.lawful {both} 𝓤 H A W tt', f'only (EL.vals {both} {{}})') if enum else (f'LL.lawful {both} 𝓤 H A W', f'LL.val {both} {{}}')
-        self.symbol = f'{crate}::{path}'.replace('.', '::')
+        self.symbol = f'{name}-symbol'
         specs, proofs = home(crate, 'specs'), home(crate, 'proofs')
         self.uses = [f'use {specs}.declared.{path}.{{{name}}}', f'use {proofs}.{path} as {short}', f'use {proofs}.{path}.Laws as {short}′']
 
@@ -118,6 +118,7 @@ NAMES = {
     'Rattle.queue.specs.View': ['queueOf', 'OutsWf', 'QueueIs', 'PolledIs'],
     'Rattle.calls.specs.View': ['Answered'],
     'Rattle.lent.specs.View': ['called'],
+    'Rattle.lent.proofs.Symbols': [f'{name}-symbol' for name in sorted({**STRUCTS, **ENUMS})],
     'Rattle.lent.proofs.Asked': ['needs-both', 'says-both'],
     'Rattle.lent.proofs.Lent': ['lies-in', 'lies-out'],
 }

@@ -38,6 +38,7 @@ use denote.Triple.Walked.{says, Stays, stay-ref, walkOf, AllGo, goes-ref, Walks,
 use Rattle.rules.specs.State.{queued}
 use Rattle.rules.specs.Outputs.{closeTransport}
 use Rattle.queue.specs.View.{queueOf, OutsWf, QueueIs}
+use Rattle.lent.proofs.Symbols.{Outputs-symbol}
 use Rattle.lent.proofs.Asked.{needs-both, says-both}
 use denote.Struct.Laws as LL
 use Rattle.queue.specs.declared.Outputs.{Outputs}
@@ -60,7 +61,7 @@ abbrev qv : Outputs → Val
 qv h = LL.val T.the-type T′.the-laws h
 
 -- the types that stand in the MIR, as its table spells them
-τq-is : spell table (tyNamed (113 ∷ 117 ∷ 101 ∷ 117 ∷ 101 ∷ 58 ∷ 58 ∷ 79 ∷ 117 ∷ 116 ∷ 112 ∷ 117 ∷ 116 ∷ 115 ∷ [], [])) ≡ T′.mir
+τq-is : spell table (tyNamed (Outputs-symbol, [])) ≡ T′.mir
 τq-is = refl
 
 -- the MIR over those types
@@ -69,8 +70,8 @@ shaped τq = record {
   lifetimes = 1;
   outlives = [];
   params = 1;
-  locals = (local tyUnit valueLocal ∷ local (tyRef (named 0) mut (tyNamed (113 ∷ 117 ∷ 101 ∷ 117 ∷ 101 ∷ 58 ∷ 58 ∷ 79 ∷ 117 ∷ 116 ∷ 112 ∷ 117 ∷ 116 ∷ 115 ∷ [], []))) valueLocal ∷ local τq valueLocal ∷ local τq valueLocal ∷ []);
-  body = seq (assign (place 2 []) (rvOpd (copy (place 1 (deref τq ∷ []))))) (seq (call #cal (copy (place 2 ([])) ∷ []) (place 3 [])) (seq (assign (place 1 (deref τq ∷ [])) (rvOpd (copy (place 3 ([]))))) (seq (assign (place 0 []) (rvOpd opdUnit)) (return))));
+  locals = (local tyUnit valueLocal ∷ local (tyRef (named 0) mut (tyNamed (Outputs-symbol, []))) valueLocal ∷ local τq valueLocal ∷ local τq valueLocal ∷ []);
+  body = seq (assign (place 2 []) (rvOpd (copy (place 1 (deref τq ∷ []))))) (seq (call #cal (copy (place 2 []) ∷ []) (place 3 [])) (seq (assign (place 1 (deref τq ∷ [])) (rvOpd (copy (place 3 [])))) (seq (assign (place 0 []) (rvOpd opdUnit)) (return))));
 }
 
 abbrev plainly : Fn

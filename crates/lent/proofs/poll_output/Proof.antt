@@ -36,6 +36,7 @@ use denote.Triple.Spec.{Meets, tripleOf}
 use denote.Triple.Table.{entered, cited}
 use denote.Triple.Walked.{says, needs, Stays, stay-ref, walkOf, AllGo, goes-ref, Walks, ends-at, walked, walk-meets}
 use Rattle.queue.specs.View.{queueOf, OutsWf, PolledIs}
+use Rattle.lent.proofs.Symbols.{Output-symbol, Outputs-symbol, Polled-symbol, Taken-symbol}
 use denote.Struct.Laws as LL
 use Rattle.queue.specs.declared.Outputs.{Outputs}
 use Rattle.queue.proofs.Outputs as T
@@ -66,20 +67,20 @@ abbrev qv : Outputs → Val
 qv h = LL.val T.the-type T′.the-laws h
 
 -- the types that stand in the MIR, as its table spells them
-τOutput-is : spell table (tyNamed (116 ∷ 121 ∷ 112 ∷ 101 ∷ 115 ∷ 58 ∷ 58 ∷ 111 ∷ 117 ∷ 116 ∷ 112 ∷ 117 ∷ 116 ∷ 58 ∷ 58 ∷ 79 ∷ 117 ∷ 116 ∷ 112 ∷ 117 ∷ 116 ∷ [], [])) ≡ Output-row′.mir
+τOutput-is : spell table (tyNamed (Output-symbol, [])) ≡ Output-row′.mir
 τOutput-is = refl
 
-τq-is : spell table (tyNamed (113 ∷ 117 ∷ 101 ∷ 117 ∷ 101 ∷ 58 ∷ 58 ∷ 79 ∷ 117 ∷ 116 ∷ 112 ∷ 117 ∷ 116 ∷ 115 ∷ [], [])) ≡ T′.mir
+τq-is : spell table (tyNamed (Outputs-symbol, [])) ≡ T′.mir
 τq-is = refl
 
-τ0-is : spell table (tyNamed (108 ∷ 101 ∷ 110 ∷ 116 ∷ 58 ∷ 58 ∷ 84 ∷ 97 ∷ 107 ∷ 101 ∷ 110 ∷ [], [])) ≡ N′.mir
+τ0-is : spell table (tyNamed (Taken-symbol, [])) ≡ N′.mir
 τ0-is = refl
 
 abbrev given : Ty
-given = tyStruct (113 ∷ 117 ∷ 101 ∷ 117 ∷ 101 ∷ 58 ∷ 58 ∷ 80 ∷ 111 ∷ 108 ∷ 108 ∷ 101 ∷ 100 ∷ []) (tcons T′.mir (tcons Output-row′.mir (tcons tyBool tnil)))
+given = tyStruct Polled-symbol (tcons T′.mir (tcons Output-row′.mir (tcons tyBool tnil)))
 
-τr-is : spell table (tyNamed (113 ∷ 117 ∷ 101 ∷ 117 ∷ 101 ∷ 58 ∷ 58 ∷ 80 ∷ 111 ∷ 108 ∷ 108 ∷ 101 ∷ 100 ∷ [], [])) ≡ given
-τr-is i = tyStruct (113 ∷ 117 ∷ 101 ∷ 117 ∷ 101 ∷ 58 ∷ 58 ∷ 80 ∷ 111 ∷ 108 ∷ 108 ∷ 101 ∷ 100 ∷ []) (tcons (τq-is i) (tcons (τOutput-is i) (tcons tyBool tnil)))
+τr-is : spell table (tyNamed (Polled-symbol, [])) ≡ given
+τr-is i = tyStruct Polled-symbol (tcons (τq-is i) (tcons (τOutput-is i) (tcons tyBool tnil)))
 
 -- the MIR over those types
 abbrev shaped : Ty → Ty → Ty → Fn
@@ -87,8 +88,8 @@ shaped τq τ0 τr = record {
   lifetimes = 1;
   outlives = [];
   params = 1;
-  locals = (local τ0 valueLocal ∷ local (tyRef (named 0) mut (tyNamed (113 ∷ 117 ∷ 101 ∷ 117 ∷ 101 ∷ 58 ∷ 58 ∷ 79 ∷ 117 ∷ 116 ∷ 112 ∷ 117 ∷ 116 ∷ 115 ∷ [], []))) valueLocal ∷ local τq valueLocal ∷ local τr valueLocal ∷ []);
-  body = seq (assign (place 2 []) (rvOpd (copy (place 1 (deref τq ∷ []))))) (seq (call #cal (copy (place 2 ([])) ∷ []) (place 3 [])) (seq (assign (place 1 (deref τq ∷ [])) (rvOpd (copy (place 3 (field 0 ∷ []))))) (seq (assign (place 0 []) (aggregate (copy (place 3 (field 1 ∷ [])) ∷ copy (place 3 (field 2 ∷ [])) ∷ []))) (return))));
+  locals = (local τ0 valueLocal ∷ local (tyRef (named 0) mut (tyNamed (Outputs-symbol, []))) valueLocal ∷ local τq valueLocal ∷ local τr valueLocal ∷ []);
+  body = seq (assign (place 2 []) (rvOpd (copy (place 1 (deref τq ∷ []))))) (seq (call #cal (copy (place 2 []) ∷ []) (place 3 [])) (seq (assign (place 1 (deref τq ∷ [])) (rvOpd (copy (place 3 (field 0 ∷ []))))) (seq (assign (place 0 []) (aggregate (copy (place 3 (field 1 ∷ [])) ∷ copy (place 3 (field 2 ∷ [])) ∷ []))) (return))));
 }
 
 abbrev plainly : Fn

@@ -39,6 +39,7 @@ use denote.Exit.{yes}
 use Rattle.rules.specs.State.{queued}
 use Rattle.rules.specs.Outputs.{send}
 use Rattle.queue.specs.View.{queueOf, OutsWf, QueueIs}
+use Rattle.lent.proofs.Symbols.{Outputs-symbol, SessionMessage-symbol}
 use Rattle.lent.proofs.Asked.{needs-both, says-both}
 use denote.Struct.Laws as LL
 use denote.Enum.Laws as EL
@@ -65,10 +66,10 @@ abbrev qv : Outputs → Val
 qv h = LL.val T.the-type T′.the-laws h
 
 -- the types that stand in the MIR, as its table spells them
-τy1-is : spell table (tyNamed (116 ∷ 121 ∷ 112 ∷ 101 ∷ 115 ∷ 58 ∷ 58 ∷ 109 ∷ 101 ∷ 115 ∷ 115 ∷ 97 ∷ 103 ∷ 101 ∷ 115 ∷ 58 ∷ 58 ∷ 83 ∷ 101 ∷ 115 ∷ 115 ∷ 105 ∷ 111 ∷ 110 ∷ 77 ∷ 101 ∷ 115 ∷ 115 ∷ 97 ∷ 103 ∷ 101 ∷ [], [])) ≡ SessionMessage-row′.mir
+τy1-is : spell table (tyNamed (SessionMessage-symbol, [])) ≡ SessionMessage-row′.mir
 τy1-is = refl
 
-τq-is : spell table (tyNamed (113 ∷ 117 ∷ 101 ∷ 117 ∷ 101 ∷ 58 ∷ 58 ∷ 79 ∷ 117 ∷ 116 ∷ 112 ∷ 117 ∷ 116 ∷ 115 ∷ [], [])) ≡ T′.mir
+τq-is : spell table (tyNamed (Outputs-symbol, [])) ≡ T′.mir
 τq-is = refl
 
 -- the MIR over those types
@@ -77,8 +78,8 @@ shaped τy1 τq = record {
   lifetimes = 1;
   outlives = [];
   params = 2;
-  locals = (local tyUnit valueLocal ∷ local (tyRef (named 0) mut (tyNamed (113 ∷ 117 ∷ 101 ∷ 117 ∷ 101 ∷ 58 ∷ 58 ∷ 79 ∷ 117 ∷ 116 ∷ 112 ∷ 117 ∷ 116 ∷ 115 ∷ [], []))) valueLocal ∷ local τy1 valueLocal ∷ local τq valueLocal ∷ local τq valueLocal ∷ []);
-  body = seq (assign (place 3 []) (rvOpd (copy (place 1 (deref τq ∷ []))))) (seq (call #cal (copy (place 3 ([])) ∷ copy (place 2 ([])) ∷ []) (place 4 [])) (seq (assign (place 1 (deref τq ∷ [])) (rvOpd (copy (place 4 ([]))))) (seq (assign (place 0 []) (rvOpd opdUnit)) (return))));
+  locals = (local tyUnit valueLocal ∷ local (tyRef (named 0) mut (tyNamed (Outputs-symbol, []))) valueLocal ∷ local τy1 valueLocal ∷ local τq valueLocal ∷ local τq valueLocal ∷ []);
+  body = seq (assign (place 3 []) (rvOpd (copy (place 1 (deref τq ∷ []))))) (seq (call #cal (copy (place 3 []) ∷ copy (place 2 []) ∷ []) (place 4 [])) (seq (assign (place 1 (deref τq ∷ [])) (rvOpd (copy (place 4 [])))) (seq (assign (place 0 []) (rvOpd opdUnit)) (return))));
 }
 
 abbrev plainly : Fn

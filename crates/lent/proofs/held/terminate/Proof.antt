@@ -39,6 +39,7 @@ use denote.Exit.{yes}
 use Rattle.rules.specs.Calls.{terminateCall}
 use Rattle.calls.specs.View.{Answered}
 use Rattle.lent.specs.View.{called}
+use Rattle.lent.proofs.Symbols.{Called-symbol, Handed-symbol, Instant-symbol, Link-symbol, Outputs-symbol, Reason-symbol, Session-symbol, TerminationCode-symbol}
 use Rattle.lent.proofs.Lent.{lies-in, lies-out}
 use denote.Struct.Laws as LL
 use denote.Enum.Laws as EL
@@ -86,31 +87,31 @@ abbrev qv : Outputs → Val
 qv h = LL.val T.the-type T′.the-laws h
 
 -- the types that stand in the MIR, as its table spells them
-τy1-is : spell table (tyNamed (115 ∷ 101 ∷ 115 ∷ 115 ∷ 105 ∷ 111 ∷ 110 ∷ 58 ∷ 58 ∷ 83 ∷ 101 ∷ 115 ∷ 115 ∷ 105 ∷ 111 ∷ 110 ∷ [], [])) ≡ Session-row′.mir
+τy1-is : spell table (tyNamed (Session-symbol, [])) ≡ Session-row′.mir
 τy1-is = refl
 
-τy2-is : spell table (tyNamed (116 ∷ 121 ∷ 112 ∷ 101 ∷ 115 ∷ 58 ∷ 58 ∷ 98 ∷ 105 ∷ 110 ∷ 100 ∷ 105 ∷ 110 ∷ 103 ∷ 58 ∷ 58 ∷ 76 ∷ 105 ∷ 110 ∷ 107 ∷ [], [])) ≡ Link-row′.mir
+τy2-is : spell table (tyNamed (Link-symbol, [])) ≡ Link-row′.mir
 τy2-is = refl
 
-τy3-is : spell table (tyNamed (116 ∷ 121 ∷ 112 ∷ 101 ∷ 115 ∷ 58 ∷ 58 ∷ 105 ∷ 100 ∷ 115 ∷ 58 ∷ 58 ∷ 73 ∷ 110 ∷ 115 ∷ 116 ∷ 97 ∷ 110 ∷ 116 ∷ [], [])) ≡ Instant-row′.mir
+τy3-is : spell table (tyNamed (Instant-symbol, [])) ≡ Instant-row′.mir
 τy3-is = refl
 
-τy4-is : spell table (tyNamed (116 ∷ 121 ∷ 112 ∷ 101 ∷ 115 ∷ 58 ∷ 58 ∷ 105 ∷ 100 ∷ 115 ∷ 58 ∷ 58 ∷ 84 ∷ 101 ∷ 114 ∷ 109 ∷ 105 ∷ 110 ∷ 97 ∷ 116 ∷ 105 ∷ 111 ∷ 110 ∷ 67 ∷ 111 ∷ 100 ∷ 101 ∷ [], [])) ≡ TerminationCode-row′.mir
+τy4-is : spell table (tyNamed (TerminationCode-symbol, [])) ≡ TerminationCode-row′.mir
 τy4-is = refl
 
-τy5-is : spell table (tyNamed (116 ∷ 121 ∷ 112 ∷ 101 ∷ 115 ∷ 58 ∷ 58 ∷ 114 ∷ 101 ∷ 97 ∷ 115 ∷ 111 ∷ 110 ∷ 115 ∷ 58 ∷ 58 ∷ 82 ∷ 101 ∷ 97 ∷ 115 ∷ 111 ∷ 110 ∷ [], [])) ≡ Reason-row′.mir
+τy5-is : spell table (tyNamed (Reason-symbol, [])) ≡ Reason-row′.mir
 τy5-is = refl
 
-τq-is : spell table (tyNamed (113 ∷ 117 ∷ 101 ∷ 117 ∷ 101 ∷ 58 ∷ 58 ∷ 79 ∷ 117 ∷ 116 ∷ 112 ∷ 117 ∷ 116 ∷ 115 ∷ [], [])) ≡ T′.mir
+τq-is : spell table (tyNamed (Outputs-symbol, [])) ≡ T′.mir
 τq-is = refl
 
-τ0-is : spell table (tyNamed (99 ∷ 97 ∷ 108 ∷ 108 ∷ 115 ∷ 58 ∷ 58 ∷ 67 ∷ 97 ∷ 108 ∷ 108 ∷ 101 ∷ 100 ∷ [], [])) ≡ R′.mir
+τ0-is : spell table (tyNamed (Called-symbol, [])) ≡ R′.mir
 τ0-is = refl
 
 abbrev given : Ty
-given = tyStruct (108 ∷ 101 ∷ 110 ∷ 116 ∷ 58 ∷ 58 ∷ 72 ∷ 97 ∷ 110 ∷ 100 ∷ 101 ∷ 100 ∷ []) (tcons Session-row′.mir (tcons Link-row′.mir (tcons Answer-row′.mir tnil)))
+given = tyStruct Handed-symbol (tcons Session-row′.mir (tcons Link-row′.mir (tcons Answer-row′.mir tnil)))
 
-τr-is : spell table (tyNamed (108 ∷ 101 ∷ 110 ∷ 116 ∷ 58 ∷ 58 ∷ 72 ∷ 97 ∷ 110 ∷ 100 ∷ 101 ∷ 100 ∷ [], [])) ≡ given
+τr-is : spell table (tyNamed (Handed-symbol, [])) ≡ given
 τr-is = refl
 
 -- the MIR over those types
@@ -119,8 +120,8 @@ shaped τy1 τy2 τy3 τy4 τy5 τq τ0 τr = record {
   lifetimes = 0;
   outlives = [];
   params = 6;
-  locals = (local τ0 valueLocal ∷ local τq valueLocal ∷ local τy1 valueLocal ∷ local τy2 valueLocal ∷ local τy3 valueLocal ∷ local τy4 valueLocal ∷ local τy5 valueLocal ∷ local τq memorySlot ∷ local τr valueLocal ∷ local (tyRef erased mut (tyNamed (113 ∷ 117 ∷ 101 ∷ 117 ∷ 101 ∷ 58 ∷ 58 ∷ 79 ∷ 117 ∷ 116 ∷ 112 ∷ 117 ∷ 116 ∷ 115 ∷ [], []))) valueLocal ∷ local τq valueLocal ∷ []);
-  body = seq (assign (place 7 []) (rvOpd (copy (place 1 ([]))))) (seq (assign (place 9 []) (addrOf (place 7 []))) (seq (call #cal (copy (place 9 ([])) ∷ copy (place 2 ([])) ∷ copy (place 3 ([])) ∷ copy (place 4 ([])) ∷ copy (place 5 ([])) ∷ copy (place 6 ([])) ∷ []) (place 8 [])) (seq (assign (place 10 []) (rvOpd (copy (place 7 ([]))))) (seq (assign (place 0 []) (aggregate (copy (place 8 (field 0 ∷ [])) ∷ copy (place 8 (field 1 ∷ [])) ∷ copy (place 10 ([])) ∷ copy (place 8 (field 2 ∷ [])) ∷ []))) (return)))));
+  locals = (local τ0 valueLocal ∷ local τq valueLocal ∷ local τy1 valueLocal ∷ local τy2 valueLocal ∷ local τy3 valueLocal ∷ local τy4 valueLocal ∷ local τy5 valueLocal ∷ local τq memorySlot ∷ local τr valueLocal ∷ local (tyRef erased mut (tyNamed (Outputs-symbol, []))) valueLocal ∷ local τq valueLocal ∷ []);
+  body = seq (assign (place 7 []) (rvOpd (copy (place 1 [])))) (seq (assign (place 9 []) (addrOf (place 7 []))) (seq (call #cal (copy (place 9 []) ∷ copy (place 2 []) ∷ copy (place 3 []) ∷ copy (place 4 []) ∷ copy (place 5 []) ∷ copy (place 6 []) ∷ []) (place 8 [])) (seq (assign (place 10 []) (rvOpd (copy (place 7 [])))) (seq (assign (place 0 []) (aggregate (copy (place 8 (field 0 ∷ [])) ∷ copy (place 8 (field 1 ∷ [])) ∷ copy (place 10 []) ∷ copy (place 8 (field 2 ∷ [])) ∷ []))) (return)))));
 }
 
 abbrev plainly : Fn
