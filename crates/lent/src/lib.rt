@@ -54,7 +54,7 @@ pub fn push(q: &mut Outputs, o: Output)
 pub fn send(q: &mut Outputs, message: SessionMessage)
     requires { ⌜ OutsWf (now q) ⌝ }
     requires { ⌜ length (queueOf (now q) .outs) < 32 ⌝ }
-    ensures { λ _. ⌜ QueueIs (now (q .exit)) (queued (queueOf (now (q .entry))) (Rattle.rules.specs.Outputs.send message ∷ [])) ⌝ }
+    ensures { λ _. ⌜ QueueIs (now (q .exit)) (queued (queueOf (now (q .entry))) (send message ∷ [])) ⌝ }
 {
     let t = *q;
     *q = t.send(message);
