@@ -24,7 +24,6 @@ use types::ids::TerminationCode;
 use types::messages::PeerMessage;
 use types::reasons::Reason;
 
-
 /// What a call leaves, and its answer.
 pub struct Called {
     pub session: Session,

@@ -77,9 +77,9 @@ Lost (gap.Some g) n stamp s b =
     (now : Instant) (reason text : Reason) →
     onPeer (peer.Sequence (record { «next_seq_no» = n })) now stamp reason text s b
     ≡ stays
-      (withOutstanding (outstanding.Some (asked stamp (g .from) (fewer (g .end .0 - g .from .0) (s .config .«max_retransmit_count»)) now)) (withInbound (seq.Some n) (withGaps (lists (g ∷ []) (s .gaps .overflow-received)) (withAwaiting false s))))
-      (leaveSequence (withReceived now b))
-      (event (ev.SequenceGap (g .from) (n .0 - g .from .0)) ∷ send (message.RetransmitRequest (record { «session_id» = s .id; timestamp = stamp; «from_seq_no» = g .from; count = fewer (g .end .0 - g .from .0) (s .config .«max_retransmit_count») })) ∷ [])
+    (withOutstanding (outstanding.Some (asked stamp (g .from) (fewer (g .end .0 - g .from .0) (s .config .«max_retransmit_count»)) now)) (withInbound (seq.Some n) (withGaps (lists (g ∷ []) (s .gaps .overflow-received)) (withAwaiting false s))))
+    (leaveSequence (withReceived now b))
+    (event (ev.SequenceGap (g .from) (n .0 - g .from .0)) ∷ send (message.RetransmitRequest (record { «session_id» = s .id; timestamp = stamp; «from_seq_no» = g .from; count = fewer (g .end .0 - g .from .0) (s .config .«max_retransmit_count») })) ∷ [])
 
 -- the message that completes the last request: nothing is missing any more
 abbrev pub Recovered : MaybeSeq → Sess → Binding → Type 0

@@ -58,7 +58,7 @@ returns-6 c = search needs
 
 -- src/lib.rt:366:1
 returns-7 : tie.Need-returns-7
-returns-7 c = 
+returns-7 c =
     record {
       counted = ne-eqb _ _ (c .before .before .before .before .before .before .before .if2 .left);
       passed = batch-passes (c .before .before .before .before .before .before .before .before .before .before .before .before .before .before .args .count) (c .before .before .before .before .before .before .before .before .before .it .given .0 .0) (view (c .before .before .before .before .before .before .before .before .before .before .before .before .before .before .args .session)) (c .before .before .before .before .before .before .before .before .before .before .before .before .before .before .args .binding) (holds (c .before .before .before .before .before .before .before .before .before .before .before .before .before .is-established .ensures) (c .before .before .before .before .before .before .before .before .before .before .before .before .if1 .left)) (c .before .before .before .before .before .before .before .before .before .it .given .1) (omega (arith, c .before .before .before .before .before .if3 .left)) (omega (arith, c .before .before .before .if4 .left)) (omega (arith, c .if5 .left, c .before .wide .ensures));

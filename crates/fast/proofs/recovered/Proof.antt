@@ -133,7 +133,7 @@ returns-15 c = search needs
 
 -- src/lib.rt:265:1
 returns-16 : tie.Need-returns-16
-returns-16 c = 
+returns-16 c =
     λ now stamp.
     let s = c .before .before .before .before .before .before .before .before .before .before .before .before .before .before .before .before .before .before .before .before .before .before .before .before .before .before .before .before .before .before .before .before .before .before .before .before .before .before .before .before .before .before .before .args .session in
     let r = c .before .before .before .before .before .before .before .before .before .before .before .before .before .before .before .before .before .before .before .before .before .before .before .before .before .before .before .before .before .before .before .before .before .before .before .batch .given .0 .0 in

@@ -55,7 +55,7 @@ returns-5 c = search needs
 
 -- src/lib.rt:127:1
 returns-6 : tie.Need-returns-6
-returns-6 c = 
+returns-6 c =
     record {
       passed = sent-passes (view (c .before .before .before .before .before .before .before .before .before .before .before .args .session)) (c .before .before .before .before .before .before .before .before .before .before .before .args .binding) (holds (c .before .before .before .before .before .before .before .before .before .before .is-established .ensures) (c .before .before .before .before .before .before .before .before .before .if1 .left)) (holds (c .before .before .before .before .before .before .is-sequenced .ensures) (c .before .before .before .before .before .if3 .left)) (c .before .before .enum-told .given .1) (lt-leb (allOnes - 1) (c .before .before .before .before .before .before .before .before .before .before .before .args .session .«outbound_next» .0) (omega (arith, c .if4 .left)));
       does = λ now. sent-rule now (view (c .before .before .before .before .before .before .before .before .before .before .before .args .session)) (c .before .before .before .before .before .before .before .before .before .before .before .args .binding) (holds (c .before .before .before .before .before .before .is-sequenced .ensures) (c .before .before .before .before .before .if3 .left)) (not-false _ (c .before .before .before .before .before .before .before .if2 .left));
