@@ -2,7 +2,7 @@
 use native.Mathlib.Omega.{arith}
 use Rattle.rules.specs.Answers.{told}
 use Rattle.trace.specs.Text.{decimal, answerText, statusText, expectedText, lineText}
-use Rattle.trace.proofs.Lines.{adds-first, adds-then, spaced-six}
+use Rattle.trace.proofs.Lines.{adds-first, adds-then, adds-as, spaced-six}
 use borrow.Author.Needs.{needs}
 use Rattle.trace.proofs.text.record_line.Statement.{statement}
 use Rattle.trace.proofs.text.record_line.Tie as tie
@@ -101,8 +101,8 @@ returns : tie.Need-returns
 unfolding lineText
 returns c =
     let a = c .before .before .before .before .before .before .before .before .before .before .before .before .before .before .before .before .before .before .before .before .before .before .before .before .before .before .before .before .before .before .before .before .before .before .before .before .before .before .before .before .before .before .args in
-    rw (spaced-six (decimal (a .index)) (answerText (told (a .answer))) (statusText (a .status)) (expectedText (a .expected)) (decimal (a .gaps)) (decimal (a .outputs)))
-    at (adds-first (omega arith) (adds-then (adds-then (adds-then (adds-then (adds-then (adds-then (adds-then (adds-then (adds-then (adds-then (adds-then (c .before .before .before .before .before .before .before .before .before .before .before .before .before .before .before .before .before .before .before .before .before .before .before .before .before .before .before .before .before .before .before .before .before .before .before .before .before .before .before .before .number .ensures) (c .before .before .before .before .before .before .before .before .before .before .before .before .before .before .before .before .before .before .before .before .before .before .before .before .before .before .before .before .before .before .before .before .before .before .before .before .word .ensures)) (c .before .before .before .before .before .before .before .before .before .before .before .before .before .before .before .before .before .before .before .before .before .before .before .before .before .before .before .before .before .before .before .before .before .answer .ensures)) (c .before .before .before .before .before .before .before .before .before .before .before .before .before .before .before .before .before .before .before .before .before .before .before .before .before .before .before .before .before .word2 .ensures)) (c .before .before .before .before .before .before .before .before .before .before .before .before .before .before .before .before .before .before .before .before .before .before .before .before .before .before .status .ensures)) (c .before .before .before .before .before .before .before .before .before .before .before .before .before .before .before .before .before .before .before .before .before .before .word3 .ensures)) (c .before .before .before .before .before .before .before .before .before .before .before .before .before .before .before .before .before .before .before .expected .ensures)) (c .before .before .before .before .before .before .before .before .before .before .before .before .before .before .before .word4 .ensures)) (c .before .before .before .before .before .before .before .before .before .before .before .before .number2 .ensures)) (c .before .before .before .before .before .before .before .before .word5 .ensures)) (c .before .before .before .before .before .number3 .ensures)) (c .before .word6 .ensures)))
+    adds-first (omega arith) (adds-as (spaced-six (decimal (a .index)) (answerText (told (a .answer))) (statusText (a .status)) (expectedText (a .expected)) (decimal (a .gaps)) (decimal (a .outputs)))
+    (adds-then (adds-then (adds-then (adds-then (adds-then (adds-then (adds-then (adds-then (adds-then (adds-then (adds-then (c .before .before .before .before .before .before .before .before .before .before .before .before .before .before .before .before .before .before .before .before .before .before .before .before .before .before .before .before .before .before .before .before .before .before .before .before .before .before .before .before .number .ensures) (c .before .before .before .before .before .before .before .before .before .before .before .before .before .before .before .before .before .before .before .before .before .before .before .before .before .before .before .before .before .before .before .before .before .before .before .before .word .ensures)) (c .before .before .before .before .before .before .before .before .before .before .before .before .before .before .before .before .before .before .before .before .before .before .before .before .before .before .before .before .before .before .before .before .before .answer .ensures)) (c .before .before .before .before .before .before .before .before .before .before .before .before .before .before .before .before .before .before .before .before .before .before .before .before .before .before .before .before .before .word2 .ensures)) (c .before .before .before .before .before .before .before .before .before .before .before .before .before .before .before .before .before .before .before .before .before .before .before .before .before .before .status .ensures)) (c .before .before .before .before .before .before .before .before .before .before .before .before .before .before .before .before .before .before .before .before .before .before .word3 .ensures)) (c .before .before .before .before .before .before .before .before .before .before .before .before .before .before .before .before .before .before .before .expected .ensures)) (c .before .before .before .before .before .before .before .before .before .before .before .before .before .before .before .word4 .ensures)) (c .before .before .before .before .before .before .before .before .before .before .before .before .number2 .ensures)) (c .before .before .before .before .before .before .before .before .word5 .ensures)) (c .before .before .before .before .before .number3 .ensures)) (c .before .word6 .ensures)))
 
 pub record-line-spec : {M : Type 1} → statement M
 record-line-spec =
