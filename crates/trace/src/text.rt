@@ -1,9 +1,10 @@
 //! The lines that the trace program prints (01, "Trace program").
 ghost use mathlib.Core.Path.{_≡_};
-ghost use mathlib.Core.List.{_∷_, []};
+ghost use mathlib.Core.List.{_∷_, [], _++_};
 ghost use Prim.Native.Nat.{_+_, _≤_};
 ghost use lib.ListN.{length};
 ghost use Rattle.rules.specs.Answers.{refusalNumber, numbers, told};
+ghost use Rattle.trace.specs.Ascii.{ascii};
 ghost use Rattle.trace.specs.Text.{digits, decimal, mostDigits, colons, answerText, statusText, expectedText};
 ghost use Rattle.trace.specs.Text.{lineText, firstText, endText, stopText, maxLine, upTo, Adds, LineIs};
 use types::answers::Answer;
@@ -215,24 +216,28 @@ pub fn first_line() -> Line
     Line { bytes, len }
 }
 
+/// A line that is a word and a number.
+fn numbered(word: &[u8], n: u64) -> Line
+    requires { ⌜ length (now word) + 21 ≤ maxLine ⌝ }
+    ensures { λ r. ⌜ LineIs r (now (word .entry) ++ (decimal n ++ ascii "\n")) ⌝ }
+{
+    let mut bytes: [u8; MAX_LINE] = [0; MAX_LINE];
+    let said = Line::word(&mut bytes, 0, word);
+    let counted = Line::number(&mut bytes, said, n);
+    let len = Line::word(&mut bytes, counted, b"\n");
+    Line { bytes, len }
+}
+
 /// The last line.
 pub fn end_line(missing: u64) -> Line
     ensures { λ r. ⌜ LineIs r (endText missing) ⌝ }
 {
-    let mut bytes: [u8; MAX_LINE] = [0; MAX_LINE];
-    let said = Line::word(&mut bytes, 0, b"end missing ");
-    let counted = Line::number(&mut bytes, said, missing);
-    let len = Line::word(&mut bytes, counted, b"\n");
-    Line { bytes, len }
+    numbered(b"end missing ", missing)
 }
 
 /// The line in the place of the last one, where the run stops at a record.
 pub fn stop_line(index: u64) -> Line
     ensures { λ r. ⌜ LineIs r (stopText index) ⌝ }
 {
-    let mut bytes: [u8; MAX_LINE] = [0; MAX_LINE];
-    let said = Line::word(&mut bytes, 0, b"stop ");
-    let numbered = Line::number(&mut bytes, said, index);
-    let len = Line::word(&mut bytes, numbered, b"\n");
-    Line { bytes, len }
+    numbered(b"stop ", index)
 }

@@ -1,16 +1,13 @@
--- `trace::text::stop_line` meets its contract: a word, a number and the line's end. Assumes nothing.
+-- `trace::text::numbered` meets its contract: a word, a number and the line's end. Assumes nothing.
 use native.Mathlib.Omega.{arith}
 use mathlib.Core.List.{append-assoc}
 use Rattle.trace.proofs.Lines.{adds-first, adds-then}
 use borrow.Author.Needs.{needs}
-use Rattle.trace.proofs.text.stop_line.Statement.{statement}
-use Rattle.trace.proofs.text.stop_line.Tie as tie
+use Rattle.trace.proofs.text.numbered.Statement.{statement}
+use Rattle.trace.proofs.text.numbered.Tie as tie
 
 slice-aggregate-word : tie.Need-slice-aggregate-word
 slice-aggregate-word c = search needs
-
-slice-aggregate-word-2 : tie.Need-slice-aggregate-word-2
-slice-aggregate-word-2 c = search needs
 
 word-requires : tie.Need-word-requires
 word-requires c κs = search needs
@@ -21,11 +18,11 @@ slice-aggregate-number c = search needs
 number-requires : tie.Need-number-requires
 number-requires c κs = search needs
 
+slice-aggregate-word-2 : tie.Need-slice-aggregate-word-2
+slice-aggregate-word-2 c = search needs
+
 slice-aggregate-word-3 : tie.Need-slice-aggregate-word-3
 slice-aggregate-word-3 c = search needs
-
-slice-aggregate-word-4 : tie.Need-slice-aggregate-word-4
-slice-aggregate-word-4 c = search needs
 
 word-requires-2 : tie.Need-word-requires-2
 word-requires-2 c κs = search needs
@@ -33,16 +30,15 @@ word-requires-2 c κs = search needs
 returns : tie.Need-returns
 returns c = adds-first (omega arith) (rw (append-assoc) at (adds-then (adds-then (c .before .before .before .before .before .before .before .before .word .ensures) (c .before .before .before .before .before .number .ensures)) (c .before .word2 .ensures)))
 
-pub stop-line-spec : {M : Type 1} → statement M
-stop-line-spec =
+pub numbered-spec : {M : Type 1} → statement M
+numbered-spec =
     tie.close
     (tie.spec
     slice-aggregate-word
-    slice-aggregate-word-2
     word-requires
     slice-aggregate-number
     number-requires
+    slice-aggregate-word-2
     slice-aggregate-word-3
-    slice-aggregate-word-4
     word-requires-2
     returns)
