@@ -5,11 +5,11 @@ use mathlib.Core.List.{List, [], _∷_, _++_, append-assoc, append-nil}
 use native.Mathlib.Numerals.{add-one}
 use native.Mathlib.Omega.{arith}
 use borrow.Author.Tests.{lt-ltb, le-ltb}
-use lib.ListN.{length, getD, take}
-use lib.Seq.{take-suc}
+use lib.ListN.{length, getD, set, take}
+use lib.Seq.{take-suc, take-suc-set}
 use Rattle.trace.specs.declared.text.Line.{Line}
 use Rattle.trace.specs.Ascii.{ascii}
-use Rattle.trace.specs.Text.{digits, text, colons, spaced, maxLine, Blank, Adds, LineIs}
+use Rattle.trace.specs.Text.{digits, text, colons, spaced, maxLine, upTo, Adds, LineIs}
 
 -- nothing is added
 pub adds-none : (l : Line) → Adds l [] 0 l
@@ -29,8 +29,14 @@ pub adds-as : {a b : Line} {t u : List ℕ} {m : ℕ} → t ≡ u → Adds a t m
 adds-as {a} e p = record { is = p .is ∙ ap (λ (x : List ℕ). text a ++ x) e; room = p .room }
 
 -- a line that starts with no bytes
-pub adds-blank : {a b : Line} {t : List ℕ} {m : ℕ} → Blank a → m ≤ maxLine → Adds a t m b → LineIs b t
-adds-blank {t = t} e h p = record { is = p .is ∙ ap (λ (x : List ℕ). x ++ t) (e .is); room = omega (arith, p .room, e .none) }
+pub adds-first : {l : List ℕ} {b : Line} {t : List ℕ} {m : ℕ} → m ≤ maxLine → Adds (upTo l 0) t m b → LineIs b t
+unfolding text
+adds-first h p = record { is = p .is; room = omega (arith, p .room) }
+
+-- one byte is stored at the line's end
+pub adds-byte : (l : List ℕ) (at x : ℕ) → at < length l → Adds (upTo l at) (x ∷ []) 1 (upTo (set l at x) (at + 1))
+unfolding text
+adds-byte l at x h = record { is = rw (add-one at) (take-suc-set l at x h); room = omega arith }
 
 -- ---- parts of a line
 -- a second number after a colon

@@ -81,10 +81,9 @@ maxLine = 144
 unfoldable pub text : Line → List ℕ
 text l = take (l .len) (l .bytes)
 
--- r holds no bytes yet
-pub record Blank (r : Line) : Type 0 where
-  pub is : text r ≡ []
-  pub none : r .len ≡ 0
+-- the line of the first n of these bytes
+abbrev pub upTo : List ℕ → ℕ → Line
+upTo l n = record { bytes = l; len = n }
 
 -- r is l with t after it, which are at most `most` bytes
 pub record Adds (l : Line) (t : List ℕ) (most : ℕ) (r : Line) : Type 0 where

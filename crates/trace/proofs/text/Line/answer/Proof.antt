@@ -66,23 +66,38 @@ refusal-number-requires c κs = search needs
 colon-requires-3 : tie.Need-colon-requires-3
 colon-requires-3 c κs = search needs
 
+same-length : tie.Need-same-length
+same-length c = search needs
+
 returns : tie.Need-returns
-returns c = rw (c .before .before .enum-told .given .1) (adds-less 47 (omega arith) (c .word .ensures))
+returns c = rw (c .before .before .before .before .before .enum-told .given .1) (adds-less 47 (omega arith) (c .before .before .word .ensures))
+
+same-length-2 : tie.Need-same-length-2
+same-length-2 c = search needs
 
 returns-2 : tie.Need-returns-2
-returns-2 c = rw (c .before .before .answer .given .1) (adds-less 47 (omega arith) (c .delivery .ensures))
+returns-2 c = rw (c .before .before .before .before .before .answer .given .1) (adds-less 47 (omega arith) (c .before .before .delivery .ensures))
+
+same-length-3 : tie.Need-same-length-3
+same-length-3 c = search needs
 
 returns-3 : tie.Need-returns-3
-returns-3 c = rw (c .before .before .before .before .answer2 .given .1) (adds-less 47 (omega arith) (adds-then (c .before .word2 .ensures) (c .maybe-colon .ensures)))
+returns-3 c = rw (c .before .before .before .before .before .before .before .before .before .before .answer2 .given .1) (adds-less 47 (omega arith) (adds-then (c .before .before .before .before .before .before .word2 .ensures) (c .before .before .maybe-colon .ensures)))
+
+same-length-4 : tie.Need-same-length-4
+same-length-4 c = search needs
 
 returns-4 : tie.Need-returns-4
 returns-4 c =
-    let b = c .before .before .before .before .before .before .answer3 .given .0 .0 in
-    rw (c .before .before .before .before .before .before .answer3 .given .1, ← c .before .wide .ensures)
-    (adds-as (colons-two (ascii "batch") (b .from .0) (c .before .wide .result)) (adds-then (adds-then (c .before .before .before .word3 .ensures) (c .before .before .colon .ensures)) (c .colon2 .ensures)))
+    let b = c .before .before .before .before .before .before .before .before .before .before .before .before .before .before .before .answer3 .given .0 .0 in
+    rw (c .before .before .before .before .before .before .before .before .before .before .before .before .before .before .before .answer3 .given .1, ← c .before .before .before .wide .ensures)
+    (adds-as (colons-two (ascii "batch") (b .from .0) (c .before .before .before .wide .result)) (adds-then (adds-then (c .before .before .before .before .before .before .before .before .before .before .before .word3 .ensures) (c .before .before .before .before .before .before .before .colon .ensures)) (c .before .before .colon2 .ensures)))
+
+same-length-5 : tie.Need-same-length-5
+same-length-5 c = search needs
 
 returns-5 : tie.Need-returns-5
-returns-5 c = rw (c .before .before .before .before .before .answer4 .given .1, ← c .before .refusal-number .ensures) (adds-less 47 (omega arith) (adds-then (c .before .before .word4 .ensures) (c .colon3 .ensures)))
+returns-5 c = rw (c .before .before .before .before .before .before .before .before .before .before .before .answer4 .given .1, ← c .before .before .before .refusal-number .ensures) (adds-less 47 (omega arith) (adds-then (c .before .before .before .before .before .before .before .word4 .ensures) (c .before .before .colon3 .ensures)))
 
 pub answer-spec : {M : Type 1} → statement M
 answer-spec =
@@ -108,8 +123,13 @@ answer-spec =
     word-requires-4
     refusal-number-requires
     colon-requires-3
+    same-length
     returns
+    same-length-2
     returns-2
+    same-length-3
     returns-3
+    same-length-4
     returns-4
+    same-length-5
     returns-5)

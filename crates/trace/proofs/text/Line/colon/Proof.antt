@@ -15,8 +15,12 @@ word-requires c κs = search needs
 number-requires : tie.Need-number-requires
 number-requires c κs = search needs
 
+same-length : tie.Need-same-length
+same-length c = search needs
+
 returns : tie.Need-returns
-returns c = rw (append-nil (decimal (c .before .before .before .args .n))) (adds-then (c .before .word .ensures) (c .number .ensures))
+returns c = rw (append-nil (decimal (c .before .before .before .before .before .before .before .before .before .before .args .n))) (adds-then (c .before .before .before .before .before .before .word .ensures) (c .before .before .number .ensures))
 
 pub colon-spec : {M : Type 1} → statement M
-colon-spec = tie.close (tie.spec slice-aggregate-word word-requires number-requires returns)
+colon-spec =
+    tie.close (tie.spec slice-aggregate-word word-requires number-requires same-length returns)

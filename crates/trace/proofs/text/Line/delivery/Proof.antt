@@ -17,8 +17,11 @@ word-requires c κs = search needs
 maybe-colon-requires : tie.Need-maybe-colon-requires
 maybe-colon-requires c κs = search needs
 
+same-length : tie.Need-same-length
+same-length c = search needs
+
 returns : tie.Need-returns
-returns c = rw (c .before .before .before .before .before .delivery .given .1, c .before .before .before .if1 .taken) (adds-then (c .before .word .ensures) (c .maybe-colon .ensures))
+returns c = rw (c .before .before .before .before .before .before .before .before .before .before .before .delivery .given .1, c .before .before .before .before .before .before .before .before .before .if1 .taken) (adds-then (c .before .before .before .before .before .before .word .ensures) (c .before .before .maybe-colon .ensures))
 
 slice-aggregate-word-2 : tie.Need-slice-aggregate-word-2
 slice-aggregate-word-2 c = search needs
@@ -38,11 +41,17 @@ slice-aggregate-word-3 c = search needs
 word-requires-3 : tie.Need-word-requires-3
 word-requires-3 c κs = search needs
 
+same-length-2 : tie.Need-same-length-2
+same-length-2 c = search needs
+
 returns-2 : tie.Need-returns-2
-returns-2 c = rw (c .before .before .before .before .before .delivery .given .1, c .before .before .before .if1 .left) (adds-then (c .before .word2 .ensures) (c .maybe-colon2 .ensures))
+returns-2 c = rw (c .before .before .before .before .before .before .before .before .before .before .before .delivery .given .1, c .before .before .before .before .before .before .before .before .before .if1 .left) (adds-then (c .before .before .before .before .before .before .word2 .ensures) (c .before .before .maybe-colon2 .ensures))
+
+same-length-3 : tie.Need-same-length-3
+same-length-3 c = search needs
 
 returns-3 : tie.Need-returns-3
-returns-3 c = rw (c .before .before .enum-told .given .1) (adds-less 27 (omega arith) (c .word3 .ensures))
+returns-3 c = rw (c .before .before .before .before .before .enum-told .given .1) (adds-less 27 (omega arith) (c .before .before .word3 .ensures))
 
 pub delivery-spec : {M : Type 1} → statement M
 delivery-spec =
@@ -52,6 +61,7 @@ delivery-spec =
     slice-aggregate-word
     word-requires
     maybe-colon-requires
+    same-length
     returns
     slice-aggregate-word-2
     word-requires-2
@@ -59,5 +69,7 @@ delivery-spec =
     enum-told
     slice-aggregate-word-3
     word-requires-3
+    same-length-2
     returns-2
+    same-length-3
     returns-3)

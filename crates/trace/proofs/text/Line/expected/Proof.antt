@@ -20,11 +20,17 @@ slice-aggregate-word c = search needs
 word-requires : tie.Need-word-requires
 word-requires c κs = search needs
 
+same-length : tie.Need-same-length
+same-length c = search needs
+
 returns : tie.Need-returns
-returns c = rw (c .before .before .expected .given .1) (c .number .ensures)
+returns c = rw (c .before .before .before .before .before .expected .given .1) (c .before .before .number .ensures)
+
+same-length-2 : tie.Need-same-length-2
+same-length-2 c = search needs
 
 returns-2 : tie.Need-returns-2
-returns-2 c = rw (c .before .before .enum-told .given .1) (adds-less 20 (omega arith) (c .word .ensures))
+returns-2 c = rw (c .before .before .before .before .before .enum-told .given .1) (adds-less 20 (omega arith) (c .before .before .word .ensures))
 
 pub expected-spec : {M : Type 1} → statement M
 expected-spec =
@@ -35,5 +41,7 @@ expected-spec =
     enum-told
     slice-aggregate-word
     word-requires
+    same-length
     returns
+    same-length-2
     returns-2)

@@ -41,17 +41,29 @@ slice-aggregate-word-4 c = search needs
 word-requires-4 : tie.Need-word-requires-4
 word-requires-4 c κs = search needs
 
+same-length : tie.Need-same-length
+same-length c = search needs
+
 returns : tie.Need-returns
-returns c = rw (c .before .before .enum-told .given .1) (adds-less 11 (omega arith) (c .word .ensures))
+returns c = rw (c .before .before .before .before .before .enum-told .given .1) (adds-less 11 (omega arith) (c .before .before .word .ensures))
+
+same-length-2 : tie.Need-same-length-2
+same-length-2 c = search needs
 
 returns-2 : tie.Need-returns-2
-returns-2 c = rw (c .before .before .enum-told2 .given .1) (adds-less 11 (omega arith) (c .word2 .ensures))
+returns-2 c = rw (c .before .before .before .before .before .enum-told2 .given .1) (adds-less 11 (omega arith) (c .before .before .word2 .ensures))
+
+same-length-3 : tie.Need-same-length-3
+same-length-3 c = search needs
 
 returns-3 : tie.Need-returns-3
-returns-3 c = rw (c .before .before .enum-told3 .given .1) (adds-less 11 (omega arith) (c .word3 .ensures))
+returns-3 c = rw (c .before .before .before .before .before .enum-told3 .given .1) (adds-less 11 (omega arith) (c .before .before .word3 .ensures))
+
+same-length-4 : tie.Need-same-length-4
+same-length-4 c = search needs
 
 returns-4 : tie.Need-returns-4
-returns-4 c = rw (c .before .before .enum-told4 .given .1) (adds-less 11 (omega arith) (c .word4 .ensures))
+returns-4 c = rw (c .before .before .before .before .before .enum-told4 .given .1) (adds-less 11 (omega arith) (c .before .before .word4 .ensures))
 
 pub status-spec : {M : Type 1} → statement M
 status-spec =
@@ -69,7 +81,11 @@ status-spec =
     enum-told-4
     slice-aggregate-word-4
     word-requires-4
+    same-length
     returns
+    same-length-2
     returns-2
+    same-length-3
     returns-3
+    same-length-4
     returns-4)

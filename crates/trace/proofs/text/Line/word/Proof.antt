@@ -1,28 +1,31 @@
 -- `trace::text::Line::word` meets its contract: after i turns the first i bytes of the word are added. Assumes nothing.
 use Prim.Native.Nat.{_-_, _≤_}
-use lib.ListN.{length, take}
-use lib.Seq.{take-length}
-use mathlib.Core.Path.{_≡_}
-use Rattle.trace.specs.Text.{Adds}
-use Rattle.trace.proofs.Lines.{adds-none, adds-then, take-more}
+use mathlib.Core.Path.{_≡_, refl, _∙_}
 use native.Mathlib.Omega.{arith}
+use lib.ListN.{length, take, getD, length-set}
+use lib.Seq.{take-length}
+use Rattle.trace.specs.Text.{Adds, upTo}
+use Rattle.trace.proofs.Lines.{adds-none, adds-then, adds-byte, take-more}
 use Rattle.trace.proofs.text.Line.word.Statement.{statement}
 use Rattle.trace.proofs.text.Line.word.Tie as tie
 
 abbrev Inv-loop : tie.InvT-loop
-Inv-loop self₀ word i₀ self i = (i ≤ length word) × Adds self₀ (take i word) i self
+Inv-loop line₀ at₀ word i₀ line at i = (i ≤ length word) × (length line ≡ length line₀) × Adds (upTo line₀ at₀) (take i word) i (upTo line at)
 
 abbrev μ-loop : tie.MeasureT-loop
-μ-loop self₀ word i₀ self i = length word - i
+μ-loop line₀ at₀ word i₀ line at i = length word - i
 
 loop-holds : tie.Need-loop-holds Inv-loop μ-loop
-loop-holds c = (omega arith, adds-none (c .before .args .self))
+loop-holds c = (omega arith, refl, adds-none (upTo (c .args .line .now) (c .args .at)))
 
-shared-slice-read-push : tie.Need-shared-slice-read-push Inv-loop μ-loop
-shared-slice-read-push c = omega arith
+shared-slice-read-line : tie.Need-shared-slice-read-line Inv-loop μ-loop
+shared-slice-read-line c = omega arith
 
-push-requires : tie.Need-push-requires Inv-loop μ-loop
-push-requires c κs = omega arith
+slice-write-line : tie.Need-slice-write-line Inv-loop μ-loop
+slice-write-line c = omega (arith, c .before .before .loop .inv .2 .room)
+
+add-at : tie.Need-add-at Inv-loop μ-loop
+add-at c = omega (arith, c .before .before .loop .inv .2 .room)
 
 add-i : tie.Need-add-i Inv-loop μ-loop
 add-i c = omega arith
@@ -31,13 +34,20 @@ loop-less : tie.Need-loop-less Inv-loop μ-loop
 loop-less c = omega arith
 
 loop-again : tie.Need-loop-again Inv-loop μ-loop
-loop-again c = (omega arith, rw (take-more (c .before .before .before .before .before .args .word .now) (c .before .before .before .loop .i) (omega arith)) (adds-then (c .before .before .before .loop .inv .1) (c .push .ensures)))
+loop-again c =
+    let w = c .before .before .before .args .word .now in
+    let o = c .before .before .loop in
+    let next = adds-byte (o .line) (o .at) (getD w (o .i) 0) (omega (arith, o .inv .2 .room)) in
+    (omega arith, length-set (o .line) (o .at) (getD w (o .i) 0) ∙ o .inv .1, rw (take-more w (o .i) (omega arith)) (adds-then (o .inv .2) next))
+
+same-length : tie.Need-same-length Inv-loop μ-loop
+same-length c = c .before .loop .inv .1
 
 returns : tie.Need-returns Inv-loop μ-loop
 returns c =
-    let w = c .before .before .before .args .word .now in
+    let w = c .before .before .args .word .now in
     let all : c .before .loop .i ≡ length w = omega arith in
-    rw (take-length w) at (rw (all) at (c .before .loop .inv .1))
+    rw (take-length w) at (rw (all) at (c .before .loop .inv .2))
 
 pub word-spec : {M : Type 1} → statement M
 word-spec =
@@ -46,9 +56,11 @@ word-spec =
     Inv-loop
     μ-loop
     loop-holds
-    shared-slice-read-push
-    push-requires
+    shared-slice-read-line
+    slice-write-line
+    add-at
     add-i
     loop-less
     loop-again
+    same-length
     returns)
