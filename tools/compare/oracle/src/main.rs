@@ -19,6 +19,7 @@ compare [--seed N] [--calls N] [--wide] [--out DIR]   compare the Rust with the 
 compare --rust-twice [--seed N] [--calls N]            the same of two copies of the Rust
 compare --self-test [--seed N] [--calls N] [--out DIR] find slips made on purpose
 compare --write-traces DIR [--count N] [--seed N]      write histories and their expected output
+compare --count-traces DIR                             count what the traces of a folder reach
 compare --expect FILE                                  print the expected output for a trace
 compare --test                                         run the tests
 ";
@@ -42,6 +43,7 @@ enum Mode {
     Compare,
     SelfTest,
     WriteTraces(PathBuf),
+    CountTraces(PathBuf),
     Expect(PathBuf),
     Help,
 }
@@ -58,6 +60,7 @@ fn main() -> ExitCode {
         Mode::Compare => run(&flags),
         Mode::SelfTest => self_test(&flags),
         Mode::WriteTraces(folder) => write_traces(&flags, folder),
+        Mode::CountTraces(folder) => count_traces(folder),
         Mode::Expect(file) => expect(file),
         Mode::Help => {
             print!("{HELP}");
@@ -95,6 +98,7 @@ fn flags(mut args: impl Iterator<Item = String>) -> Result<Flags, String> {
             "--out" => flags.out = value()?.into(),
             "--self-test" => flags.mode = Mode::SelfTest,
             "--write-traces" => flags.mode = Mode::WriteTraces(value()?.into()),
+            "--count-traces" => flags.mode = Mode::CountTraces(value()?.into()),
             "--expect" => flags.mode = Mode::Expect(value()?.into()),
             "--help" => flags.mode = Mode::Help,
             other => return Err(format!("unknown flag {other}")),
@@ -224,6 +228,19 @@ fn write_traces(flags: &Flags, folder: &Path) -> io::Result<bool> {
         fs::write(folder.join(format!("{number:03}.expected")), expected)?;
     }
     println!("{stats}{} traces", inputs.len());
+    Ok(true)
+}
+
+/// Counts what the traces of a folder reach, up to where each stops.
+fn count_traces(folder: &Path) -> io::Result<bool> {
+    let mut files = fs::read_dir(folder)?
+        .map(|entry| entry.map(|entry| entry.path()))
+        .collect::<io::Result<Vec<_>>>()?;
+    files.retain(|path| path.extension().is_some_and(|extension| extension == "trace"));
+    files.sort();
+    let inputs = files.iter().map(fs::read).collect::<io::Result<Vec<_>>>()?;
+    let histories: Vec<_> = inputs.iter().map(|input| trace::calls(input)).collect();
+    println!("{}{} traces", cover::stats(&histories), inputs.len());
     Ok(true)
 }
 

@@ -625,3 +625,73 @@ fn binding(record: &Record) -> BindingState {
         in_sequence: bond.in_sequence,
     }
 }
+
+#[cfg(test)]
+mod tests {
+    use super::*;
+
+    fn called(record: Record, kind: u8, code: u8) -> Done {
+        let request = Request { kind, code, ..Request::blank(0, 0) };
+        // SAFETY: as in `run`.
+        unsafe { fixp_call(record, request) }
+    }
+
+    fn bound() -> Record {
+        let record = called(Record::blank(), 2, 1).record;
+        assert!(record.bond.some);
+        record
+    }
+
+    #[test]
+    fn a_number_outside_its_list_is_refused_by_5_in_a_request() {
+        let record = bound();
+        for kind in 0..=u8::MAX {
+            let codes: &[u8] = match kind {
+                2..=4 | 32..=36 | 39..=44 | 64 | 66 | 68 | 69 => continue,
+                37 | 67 => &[0, 4, 255],
+                38 | 65 => &[0, 5, 255],
+                _ => &[1],
+            };
+            for code in codes {
+                let done = called(record, kind, *code);
+                assert_eq!(answer(&done.reply), Answer::Refused(Refusal::BadMessage));
+                assert_eq!(done.record, record);
+            }
+        }
+    }
+
+    #[test]
+    fn a_bad_record_is_refused_by_1_before_a_bad_request_by_5() {
+        for bad in Bad::ALL {
+            let mut record = bound();
+            spoil(&mut record, bad);
+            let done = called(record, 38, 0);
+            let outside = matches!(bad, Bad::Flow | Bad::Policy | Bad::Phase | Bad::OutputKind);
+            let first = if outside { Refusal::BadRecord } else { Refusal::BadMessage };
+            assert_eq!(answer(&done.reply), Answer::Refused(first), "{bad:?}");
+            assert_eq!(answer(&called(record, 3, 1).reply), Answer::Refused(Refusal::BadRecord));
+            assert_eq!(done.record, record);
+            assert_eq!(deadline(&record), Err(Answer::Refused(Refusal::BadRecord)));
+        }
+    }
+
+    #[test]
+    fn a_number_outside_its_list_is_refused_by_2_in_an_opening() {
+        let good = Opening {
+            id: to_id([0; 16]),
+            local_flow: 1,
+            remote_flow: 4,
+            config: Record::blank().config,
+        };
+        // SAFETY: as in `Port::open`.
+        let open = |opening| answer(&unsafe { fixp_open(opening) }.reply);
+        assert_eq!(open(good), Answer::Ok);
+        let bad = Answer::Refused(Refusal::BadConfig);
+        for code in [0, 5, 255] {
+            assert_eq!(open(Opening { local_flow: code, ..good }), bad);
+            assert_eq!(open(Opening { remote_flow: code, ..good }), bad);
+            let config = Settings { policy: code, ..good.config };
+            assert_eq!(open(Opening { config, ..good }), bad);
+        }
+    }
+}
