@@ -1,4 +1,8 @@
 //! An answer as numbers, by 01's own (`rules/specs/Answers`).
+ghost use mathlib.Core.Path.{_≡_};
+ghost use Rattle.rules.specs.Names.answer;
+ghost use Rattle.library.specs.Parts.{noNumber};
+ghost use Rattle.library.specs.Answers.{numberedReply, carryingReply, refusalOut, answerOut};
 use crate::codes::operation_out;
 use crate::codes::status_out;
 use crate::mirror::Number;
@@ -11,12 +15,16 @@ use types::answers::Delivery;
 use types::answers::Refusal;
 
 /// An answer of that kind, of which nothing else speaks.
-fn plain(kind: u8) -> Reply {
+fn plain(kind: u8) -> Reply
+    ensures { λ r. ⌜ r ≡ numberedReply kind noNumber ⌝ }
+{
     numbered(kind, no_number())
 }
 
 /// An answer of that kind with that number.
-pub fn numbered(kind: u8, number: Number) -> Reply {
+pub fn numbered(kind: u8, number: Number) -> Reply
+    ensures { λ r. ⌜ r ≡ numberedReply kind number ⌝ }
+{
     Reply {
         kind,
         refusal: 0,
@@ -27,12 +35,16 @@ pub fn numbered(kind: u8, number: Number) -> Reply {
 }
 
 /// A refusal that carries nothing.
-fn bare(refusal: u8) -> Reply {
+fn bare(refusal: u8) -> Reply
+    ensures { λ r. ⌜ r ≡ carryingReply refusal 0 0 ⌝ }
+{
     carrying(refusal, 0, 0)
 }
 
 /// A refusal that carries two numbers.
-fn carrying(refusal: u8, first: u64, second: u64) -> Reply {
+fn carrying(refusal: u8, first: u64, second: u64) -> Reply
+    ensures { λ r. ⌜ r ≡ carryingReply refusal first second ⌝ }
+{
     Reply {
         kind: 7,
         refusal,
@@ -42,15 +54,21 @@ fn carrying(refusal: u8, first: u64, second: u64) -> Reply {
     }
 }
 
-fn wide(n: usize) -> u64 {
+fn wide(n: usize) -> u64
+    ensures { λ r. ⌜ r ≡ n ⌝ }
+{
     n as u64
 }
 
-fn wide32(n: u32) -> u64 {
+fn wide32(n: u32) -> u64
+    ensures { λ r. ⌜ r ≡ n ⌝ }
+{
     n as u64
 }
 
-pub fn refusal_out(refusal: Refusal) -> Reply {
+pub fn refusal_out(refusal: Refusal) -> Reply
+    ensures { λ r. ⌜ r ≡ refusalOut refusal ⌝ }
+{
     match refusal {
         Refusal::BadRecord => bare(1),
         Refusal::BadConfig => bare(2),
@@ -77,7 +95,9 @@ pub fn refusal_out(refusal: Refusal) -> Reply {
     }
 }
 
-fn delivery_out(delivery: Delivery) -> Reply {
+fn delivery_out(delivery: Delivery) -> Reply
+    ensures { λ r. ⌜ r ≡ answerOut (answer.Delivered delivery) ⌝ }
+{
     match delivery {
         Delivery::Accept { seq, retransmitted } => {
             if retransmitted {
@@ -89,7 +109,9 @@ fn delivery_out(delivery: Delivery) -> Reply {
     }
 }
 
-pub fn answer_out(answer: Answer) -> Reply {
+pub fn answer_out(answer: Answer) -> Reply
+    ensures { λ r. ⌜ r ≡ answerOut answer ⌝ }
+{
     match answer {
         Answer::Ok => plain(1),
         Answer::Delivered(delivery) => delivery_out(delivery),

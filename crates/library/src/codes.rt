@@ -1,4 +1,8 @@
 //! The numbers that stand for enums: 01's where it has them. A number outside its list reads as the list's last, and `clean` refuses it before.
+ghost use mathlib.Core.Path.{_≡_};
+ghost use Rattle.types.specs.Flows.{flowNumber, policyNumber, terminationNumber, rejectionNumber};
+ghost use Rattle.rules.specs.Answers.{operationNumber, statusNumber};
+ghost use Rattle.library.specs.Numbers.{isListed, flowIn, policyIn, terminationIn, rejectionIn, byIn, byNumber, nameIn, nameNumber, isNameNumber};
 use types::answers::Operation;
 use types::answers::SessionStatus;
 use types::config::RetransmitStallPolicy;
@@ -9,14 +13,18 @@ use types::messages::MessageName;
 use types::output::TerminatedBy;
 
 /// Whether a code is one of 1 to `last`.
-pub fn listed(code: u8, last: u8) -> bool {
+pub fn listed(code: u8, last: u8) -> bool
+    ensures { λ r. ⌜ r ≡ isListed code last ⌝ }
+{
     if code < 1 {
         return false;
     }
     code <= last
 }
 
-pub fn flow_in(code: u8) -> FlowType {
+pub fn flow_in(code: u8) -> FlowType
+    ensures { λ r. ⌜ r ≡ flowIn code ⌝ }
+{
     match code {
         1 => FlowType::Recoverable,
         2 => FlowType::Idempotent,
@@ -25,7 +33,9 @@ pub fn flow_in(code: u8) -> FlowType {
     }
 }
 
-pub fn flow_out(flow: FlowType) -> u8 {
+pub fn flow_out(flow: FlowType) -> u8
+    ensures { λ r. ⌜ r ≡ flowNumber flow ⌝ }
+{
     match flow {
         FlowType::Recoverable => 1,
         FlowType::Idempotent => 2,
@@ -34,7 +44,9 @@ pub fn flow_out(flow: FlowType) -> u8 {
     }
 }
 
-pub fn policy_in(code: u8) -> RetransmitStallPolicy {
+pub fn policy_in(code: u8) -> RetransmitStallPolicy
+    ensures { λ r. ⌜ r ≡ policyIn code ⌝ }
+{
     match code {
         1 => RetransmitStallPolicy::Terminate,
         2 => RetransmitStallPolicy::ReRequestAfterContextSwitch,
@@ -43,7 +55,9 @@ pub fn policy_in(code: u8) -> RetransmitStallPolicy {
     }
 }
 
-pub fn policy_out(policy: RetransmitStallPolicy) -> u8 {
+pub fn policy_out(policy: RetransmitStallPolicy) -> u8
+    ensures { λ r. ⌜ r ≡ policyNumber policy ⌝ }
+{
     match policy {
         RetransmitStallPolicy::Terminate => 1,
         RetransmitStallPolicy::ReRequestAfterContextSwitch => 2,
@@ -52,7 +66,9 @@ pub fn policy_out(policy: RetransmitStallPolicy) -> u8 {
     }
 }
 
-pub fn termination_in(code: u8) -> TerminationCode {
+pub fn termination_in(code: u8) -> TerminationCode
+    ensures { λ r. ⌜ r ≡ terminationIn code ⌝ }
+{
     match code {
         1 => TerminationCode::Finished,
         2 => TerminationCode::UnspecifiedError,
@@ -61,7 +77,9 @@ pub fn termination_in(code: u8) -> TerminationCode {
     }
 }
 
-pub fn termination_out(code: TerminationCode) -> u8 {
+pub fn termination_out(code: TerminationCode) -> u8
+    ensures { λ r. ⌜ r ≡ terminationNumber code ⌝ }
+{
     match code {
         TerminationCode::Finished => 1,
         TerminationCode::UnspecifiedError => 2,
@@ -70,7 +88,9 @@ pub fn termination_out(code: TerminationCode) -> u8 {
     }
 }
 
-pub fn rejection_in(code: u8) -> RetransmitRejectCode {
+pub fn rejection_in(code: u8) -> RetransmitRejectCode
+    ensures { λ r. ⌜ r ≡ rejectionIn code ⌝ }
+{
     match code {
         1 => RetransmitRejectCode::OutOfRange,
         2 => RetransmitRejectCode::InvalidSession,
@@ -78,7 +98,9 @@ pub fn rejection_in(code: u8) -> RetransmitRejectCode {
     }
 }
 
-pub fn rejection_out(code: RetransmitRejectCode) -> u8 {
+pub fn rejection_out(code: RetransmitRejectCode) -> u8
+    ensures { λ r. ⌜ r ≡ rejectionNumber code ⌝ }
+{
     match code {
         RetransmitRejectCode::OutOfRange => 1,
         RetransmitRejectCode::InvalidSession => 2,
@@ -87,14 +109,18 @@ pub fn rejection_out(code: RetransmitRejectCode) -> u8 {
 }
 
 /// Who ended a binding: 1 this side, 2 the peer.
-pub fn by_in(code: u8) -> TerminatedBy {
+pub fn by_in(code: u8) -> TerminatedBy
+    ensures { λ r. ⌜ r ≡ byIn code ⌝ }
+{
     match code {
         1 => TerminatedBy::Local,
         _ => TerminatedBy::Peer,
     }
 }
 
-pub fn by_out(by: TerminatedBy) -> u8 {
+pub fn by_out(by: TerminatedBy) -> u8
+    ensures { λ r. ⌜ r ≡ byNumber by ⌝ }
+{
     match by {
         TerminatedBy::Local => 1,
         TerminatedBy::Peer => 2,
@@ -102,7 +128,9 @@ pub fn by_out(by: TerminatedBy) -> u8 {
 }
 
 /// A message's name by the kind of its trace record.
-pub fn name_in(kind: u8) -> MessageName {
+pub fn name_in(kind: u8) -> MessageName
+    ensures { λ r. ⌜ r ≡ nameIn kind ⌝ }
+{
     match kind {
         32 => MessageName::Sequence,
         33 => MessageName::Context,
@@ -121,7 +149,9 @@ pub fn name_in(kind: u8) -> MessageName {
     }
 }
 
-pub fn name_out(name: MessageName) -> u8 {
+pub fn name_out(name: MessageName) -> u8
+    ensures { λ r. ⌜ r ≡ nameNumber name ⌝ }
+{
     match name {
         MessageName::Topic => 43,
         MessageName::Sequence => 32,
@@ -141,7 +171,9 @@ pub fn name_out(name: MessageName) -> u8 {
 }
 
 /// Whether a number names a message: 4, or 32 to 44.
-pub fn is_name(kind: u8) -> bool {
+pub fn is_name(kind: u8) -> bool
+    ensures { λ r. ⌜ r ≡ isNameNumber kind ⌝ }
+{
     if kind == 4 {
         return true;
     }
@@ -152,7 +184,9 @@ pub fn is_name(kind: u8) -> bool {
 }
 
 /// A local call by the kind of its trace record.
-pub fn operation_out(operation: Operation) -> u64 {
+pub fn operation_out(operation: Operation) -> u64
+    ensures { λ r. ⌜ r ≡ operationNumber operation ⌝ }
+{
     match operation {
         Operation::SendApplication => 64,
         Operation::Terminate => 65,
@@ -162,7 +196,9 @@ pub fn operation_out(operation: Operation) -> u64 {
     }
 }
 
-pub fn status_out(status: SessionStatus) -> u64 {
+pub fn status_out(status: SessionStatus) -> u64
+    ensures { λ r. ⌜ r ≡ statusNumber status ⌝ }
+{
     match status {
         SessionStatus::Unbound => 0,
         SessionStatus::Established => 1,

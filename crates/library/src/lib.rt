@@ -1,4 +1,7 @@
 //! The calls for C and Rust: records as plain numbers, by value in and out.
+ghost use mathlib.Core.Path.{_≡_};
+ghost use Rattle.calls.specs.View.{Answered};
+ghost use Rattle.library.specs.Records.{sessionIn, linkIn, callOf, isMalformed};
 use crate::answers::answer_out;
 use crate::answers::numbered;
 use crate::answers::refusal_out;
@@ -64,25 +67,27 @@ pub mod outputs;
 pub mod parts;
 pub mod requests;
 
-fn session_in(r: Record) -> Session {
-    let id = r.id;
-    let config = r.config;
-    let next = r.inbound_next;
-    let missing = r.missing;
-    let overflow = r.overflow;
-    let asked = r.asked;
-    let batch = r.batch;
-    let served = r.served;
-    let finished = r.finished;
+fn session_in(plain: Record) -> Session
+    ensures { λ r. ⌜ r ≡ sessionIn plain ⌝ }
+{
+    let id = plain.id;
+    let config = plain.config;
+    let next = plain.inbound_next;
+    let missing = plain.missing;
+    let overflow = plain.overflow;
+    let asked = plain.asked;
+    let batch = plain.batch;
+    let served = plain.served;
+    let finished = plain.finished;
     let gaps = gaps_in(missing, overflow);
     Session {
         id: id_in(id),
-        local_flow: flow_in(r.local_flow),
-        remote_flow: flow_in(r.remote_flow),
+        local_flow: flow_in(plain.local_flow),
+        remote_flow: flow_in(plain.remote_flow),
         config: config_in(config),
-        outbound_next: SeqNum(r.outbound_next),
+        outbound_next: SeqNum(plain.outbound_next),
         inbound_next: SeqSlot { it: seq_in(next) },
-        start_pending: r.start_pending,
+        start_pending: plain.start_pending,
         gaps,
         outstanding: OutstandingSlot {
             it: outstanding_in(asked),
@@ -90,20 +95,22 @@ fn session_in(r: Record) -> Session {
         replay: ReplaySlot {
             it: replay_in(batch),
         },
-        awaiting_resume: r.awaiting_resume,
+        awaiting_resume: plain.awaiting_resume,
         provider: ProviderSlot {
             it: provider_in(served),
         },
         peer_finished: PeerFinishedSlot {
             it: finished_in(finished),
         },
-        finalized: r.finalized,
+        finalized: plain.finalized,
     }
 }
 
-fn link_in(r: Record) -> Link {
-    let bond = r.bond;
-    let text = r.reason;
+fn link_in(plain: Record) -> Link
+    ensures { λ r. ⌜ r ≡ linkIn plain ⌝ }
+{
+    let bond = plain.bond;
+    let text = plain.reason;
     let binding = binding_in(bond);
     let reason = text_in(text);
     Link { binding, reason }
@@ -199,7 +206,9 @@ fn is_clean(r: Record) -> bool {
 }
 
 /// The one place where calls are made.
-fn run(session: Session, link: Link, queue: Outputs, entry: Entry, request: Request) -> Called {
+fn run(session: Session, link: Link, queue: Outputs, entry: Entry, request: Request) -> Called
+    ensures { λ r. ⌜ Answered (callOf entry request) r session link queue ⌝ }
+{
     let now = Instant(request.now);
     let stamp = Nanotime(request.stamp);
     let text = request.reason;
@@ -240,7 +249,9 @@ fn run(session: Session, link: Link, queue: Outputs, entry: Entry, request: Requ
     }
 }
 
-fn is_malformed(entry: Entry) -> bool {
+fn is_malformed(entry: Entry) -> bool
+    ensures { λ r. ⌜ r ≡ isMalformed entry ⌝ }
+{
     match entry {
         Entry::Open {
             id,
@@ -266,20 +277,28 @@ fn is_malformed(entry: Entry) -> bool {
     }
 }
 
+/// A request that is no call: 5, on a good record.
+fn malformed(record: Record, good: bool) -> Done {
+    if good {
+        return refused(record, Refusal::BadMessage);
+    }
+    refused(record, Refusal::BadRecord)
+}
+
 /// A call on a record. A number outside its list is refused: 1 in a record, then 5 in a request.
 #[no_mangle]
 pub extern "C" fn fixp_call(record: Record, request: Request) -> Done {
     if !is_clean(record) {
         return refused(record, Refusal::BadRecord);
     }
-    let entry = entry_in(request);
-    if is_malformed(entry) {
-        return refused(record, Refusal::BadMessage);
-    }
     let session = session_in(record);
     let link = link_in(record);
     let queue = record.queue;
     let outputs = queue_in(queue);
+    let entry = entry_in(request);
+    if is_malformed(entry) {
+        return malformed(record, is_good(session, link, outputs));
+    }
     done_of(run(session, link, outputs, entry, request))
 }
 

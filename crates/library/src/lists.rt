@@ -1,4 +1,7 @@
 //! The two rings, place by place.
+ghost use mathlib.Core.Path.{_≡_};
+ghost use Rattle.library.specs.Parts.{gapIn, gapOut};
+ghost use Rattle.library.specs.Records.{missingIn, missingOut, overflowIn, overflowOut, gapsIn};
 use crate::mirror::Missing;
 use crate::mirror::Overflow;
 use crate::mirror::Range;
@@ -10,21 +13,27 @@ use rings::run_ring::RunRing;
 use types::ids::SeqNum;
 use types::parts::Gap;
 
-fn gap_in(r: Range) -> Gap {
+fn gap_in(range: Range) -> Gap
+    ensures { λ r. ⌜ r ≡ gapIn range ⌝ }
+{
     Gap {
-        from: SeqNum(r.from),
-        end: SeqNum(r.end),
+        from: SeqNum(range.from),
+        end: SeqNum(range.end),
     }
 }
 
-fn gap_out(g: Gap) -> Range {
+fn gap_out(gap: Gap) -> Range
+    ensures { λ r. ⌜ r ≡ gapOut gap ⌝ }
+{
     Range {
-        from: g.from.0,
-        end: g.end.0,
+        from: gap.from.0,
+        end: gap.end.0,
     }
 }
 
-fn missing_in(m: Missing) -> GapRing {
+fn missing_in(m: Missing) -> GapRing
+    ensures { λ r. ⌜ r ≡ missingIn m ⌝ }
+{
     let mut ring = GapRing::new();
     let mut i: usize = 0;
     while i < MAX_GAPS {
@@ -38,12 +47,14 @@ fn missing_in(m: Missing) -> GapRing {
     ring
 }
 
-pub fn missing_out(ring: GapRing) -> Missing {
+pub fn missing_out(ring: GapRing) -> Missing
+    ensures { λ r. ⌜ r ≡ missingOut ring ⌝ }
+{
     let none = Range { from: 0, end: 0 };
     let mut m = Missing {
         slots: [none; MAX_GAPS],
-        head: ring.head,
-        count: ring.count,
+        head: 0,
+        count: 0,
     };
     let mut i: usize = 0;
     while i < MAX_GAPS {
@@ -52,10 +63,14 @@ pub fn missing_out(ring: GapRing) -> Missing {
         m.slots[i] = r;
         i = i + 1;
     }
+    m.head = ring.head;
+    m.count = ring.count;
     m
 }
 
-fn overflow_in(m: Overflow) -> RunRing {
+fn overflow_in(m: Overflow) -> RunRing
+    ensures { λ r. ⌜ r ≡ overflowIn m ⌝ }
+{
     let mut ring = RunRing::new();
     let mut i: usize = 0;
     while i < MAX_RUNS {
@@ -69,12 +84,14 @@ fn overflow_in(m: Overflow) -> RunRing {
     ring
 }
 
-pub fn overflow_out(ring: RunRing) -> Overflow {
+pub fn overflow_out(ring: RunRing) -> Overflow
+    ensures { λ r. ⌜ r ≡ overflowOut ring ⌝ }
+{
     let none = Range { from: 0, end: 0 };
     let mut m = Overflow {
         slots: [none; MAX_RUNS],
-        head: ring.head,
-        count: ring.count,
+        head: 0,
+        count: 0,
     };
     let mut i: usize = 0;
     while i < MAX_RUNS {
@@ -83,10 +100,14 @@ pub fn overflow_out(ring: RunRing) -> Overflow {
         m.slots[i] = r;
         i = i + 1;
     }
+    m.head = ring.head;
+    m.count = ring.count;
     m
 }
 
-pub fn gaps_in(missing: Missing, overflow: Overflow) -> Gaps {
+pub fn gaps_in(missing: Missing, overflow: Overflow) -> Gaps
+    ensures { λ r. ⌜ r ≡ gapsIn missing overflow ⌝ }
+{
     let missing_ring = missing_in(missing);
     let overflow_ring = overflow_in(overflow);
     Gaps {

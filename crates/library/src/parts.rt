@@ -1,4 +1,8 @@
 //! The parts of a record, to and from their mirrors.
+ghost use mathlib.Core.Path.{_≡_};
+ghost use Rattle.library.specs.Parts.{noNumber, aNumber, seqIn, seqOut, instantIn, instantOut, durationIn, durationOut, idIn, idOut, textIn, textOut};
+ghost use Rattle.library.specs.Parts.{configIn, configOut, outstandingIn, outstandingOut, replayIn, replayOut, providerIn, providerOut, finishedIn, finishedOut};
+ghost use Rattle.library.specs.Parts.{stateIn, bindingIn, bondOf, noBond, bindingOut};
 use crate::codes::flow_in;
 use crate::codes::flow_out;
 use crate::codes::policy_in;
@@ -37,69 +41,91 @@ use types::parts::Replay;
 use types::reasons::Reason;
 
 /// No number.
-pub fn no_number() -> Number {
+pub fn no_number() -> Number
+    ensures { λ r. ⌜ r ≡ noNumber ⌝ }
+{
     Number { some: false, it: 0 }
 }
 
 /// That number.
-pub fn number(it: u64) -> Number {
+pub fn number(it: u64) -> Number
+    ensures { λ r. ⌜ r ≡ aNumber it ⌝ }
+{
     Number { some: true, it }
 }
 
-pub fn seq_in(n: Number) -> MaybeSeq {
+pub fn seq_in(n: Number) -> MaybeSeq
+    ensures { λ r. ⌜ r ≡ seqIn n ⌝ }
+{
     if n.some {
         return MaybeSeq::Some(SeqNum(n.it));
     }
     MaybeSeq::None
 }
 
-pub fn seq_out(seq: MaybeSeq) -> Number {
+pub fn seq_out(seq: MaybeSeq) -> Number
+    ensures { λ r. ⌜ r ≡ seqOut seq ⌝ }
+{
     match seq {
         MaybeSeq::Some(n) => number(n.0),
         MaybeSeq::None => no_number(),
     }
 }
 
-pub fn instant_in(n: Number) -> MaybeInstant {
+pub fn instant_in(n: Number) -> MaybeInstant
+    ensures { λ r. ⌜ r ≡ instantIn n ⌝ }
+{
     if n.some {
         return MaybeInstant::Some(Instant(n.it));
     }
     MaybeInstant::None
 }
 
-pub fn instant_out(instant: MaybeInstant) -> Number {
+pub fn instant_out(instant: MaybeInstant) -> Number
+    ensures { λ r. ⌜ r ≡ instantOut instant ⌝ }
+{
     match instant {
         MaybeInstant::Some(t) => number(t.0),
         MaybeInstant::None => no_number(),
     }
 }
 
-pub fn duration_in(n: Number) -> MaybeDuration {
+pub fn duration_in(n: Number) -> MaybeDuration
+    ensures { λ r. ⌜ r ≡ durationIn n ⌝ }
+{
     if n.some {
         return MaybeDuration::Some(n.it);
     }
     MaybeDuration::None
 }
 
-pub fn duration_out(duration: MaybeDuration) -> Number {
+pub fn duration_out(duration: MaybeDuration) -> Number
+    ensures { λ r. ⌜ r ≡ durationOut duration ⌝ }
+{
     match duration {
         MaybeDuration::Some(n) => number(n),
         MaybeDuration::None => no_number(),
     }
 }
 
-pub fn id_in(id: Id) -> SessionId {
+pub fn id_in(id: Id) -> SessionId
+    ensures { λ r. ⌜ r ≡ idIn id ⌝ }
+{
     SessionId(id.low, id.high)
 }
 
-pub fn id_out(id: SessionId) -> Id {
+pub fn id_out(id: SessionId) -> Id
+    ensures { λ r. ⌜ r ≡ idOut id ⌝ }
+{
     Id {
         low: id.0,
         high: id.1,
     }
 }
 
-pub fn text_in(text: Text) -> Reason {
+pub fn text_in(text: Text) -> Reason
+    ensures { λ r. ⌜ r ≡ textIn text ⌝ }
+{
     let bytes = text.bytes;
     Reason {
         bytes,
@@ -107,7 +133,9 @@ pub fn text_in(text: Text) -> Reason {
     }
 }
 
-pub fn text_out(reason: Reason) -> Text {
+pub fn text_out(reason: Reason) -> Text
+    ensures { λ r. ⌜ r ≡ textOut reason ⌝ }
+{
     let bytes = reason.bytes;
     Text {
         bytes,
@@ -115,7 +143,9 @@ pub fn text_out(reason: Reason) -> Text {
     }
 }
 
-pub fn config_in(c: Settings) -> FixpConfig {
+pub fn config_in(c: Settings) -> FixpConfig
+    ensures { λ r. ⌜ r ≡ configIn c ⌝ }
+{
     let grace = c.grace;
     FixpConfig {
         max_gap_len: c.max_gap_len,
@@ -127,7 +157,9 @@ pub fn config_in(c: Settings) -> FixpConfig {
     }
 }
 
-pub fn config_out(c: FixpConfig) -> Settings {
+pub fn config_out(c: FixpConfig) -> Settings
+    ensures { λ r. ⌜ r ≡ configOut c ⌝ }
+{
     let grace = c.peer_silence_grace;
     let policy = c.retransmit_stall_policy;
     Settings {
@@ -140,7 +172,9 @@ pub fn config_out(c: FixpConfig) -> Settings {
     }
 }
 
-pub fn outstanding_in(o: Asked) -> MaybeOutstanding {
+pub fn outstanding_in(o: Asked) -> MaybeOutstanding
+    ensures { λ r. ⌜ r ≡ outstandingIn o ⌝ }
+{
     if !o.some {
         return MaybeOutstanding::None;
     }
@@ -156,7 +190,9 @@ pub fn outstanding_in(o: Asked) -> MaybeOutstanding {
     })
 }
 
-pub fn outstanding_out(it: MaybeOutstanding) -> Asked {
+pub fn outstanding_out(it: MaybeOutstanding) -> Asked
+    ensures { λ r. ⌜ r ≡ outstandingOut it ⌝ }
+{
     match it {
         MaybeOutstanding::Some(o) => Asked {
             some: true,
@@ -183,7 +219,9 @@ pub fn outstanding_out(it: MaybeOutstanding) -> Asked {
     }
 }
 
-pub fn replay_in(b: Batch) -> MaybeReplay {
+pub fn replay_in(b: Batch) -> MaybeReplay
+    ensures { λ r. ⌜ r ≡ replayIn b ⌝ }
+{
     if !b.some {
         return MaybeReplay::None;
     }
@@ -193,7 +231,9 @@ pub fn replay_in(b: Batch) -> MaybeReplay {
     })
 }
 
-pub fn replay_out(it: MaybeReplay) -> Batch {
+pub fn replay_out(it: MaybeReplay) -> Batch
+    ensures { λ r. ⌜ r ≡ replayOut it ⌝ }
+{
     match it {
         MaybeReplay::Some(r) => Batch {
             some: true,
@@ -208,7 +248,9 @@ pub fn replay_out(it: MaybeReplay) -> Batch {
     }
 }
 
-pub fn provider_in(s: Served) -> MaybeProvider {
+pub fn provider_in(s: Served) -> MaybeProvider
+    ensures { λ r. ⌜ r ≡ providerIn s ⌝ }
+{
     if !s.some {
         return MaybeProvider::None;
     }
@@ -220,7 +262,9 @@ pub fn provider_in(s: Served) -> MaybeProvider {
     })
 }
 
-pub fn provider_out(it: MaybeProvider) -> Served {
+pub fn provider_out(it: MaybeProvider) -> Served
+    ensures { λ r. ⌜ r ≡ providerOut it ⌝ }
+{
     match it {
         MaybeProvider::Some(p) => Served {
             some: true,
@@ -239,7 +283,9 @@ pub fn provider_out(it: MaybeProvider) -> Served {
     }
 }
 
-pub fn finished_in(f: Finished) -> MaybePeerFinished {
+pub fn finished_in(f: Finished) -> MaybePeerFinished
+    ensures { λ r. ⌜ r ≡ finishedIn f ⌝ }
+{
     if !f.some {
         return MaybePeerFinished::None;
     }
@@ -250,7 +296,9 @@ pub fn finished_in(f: Finished) -> MaybePeerFinished {
     })
 }
 
-pub fn finished_out(it: MaybePeerFinished) -> Finished {
+pub fn finished_out(it: MaybePeerFinished) -> Finished
+    ensures { λ r. ⌜ r ≡ finishedOut it ⌝ }
+{
     match it {
         MaybePeerFinished::Some(f) => {
             let end = f.end;
@@ -269,7 +317,9 @@ pub fn finished_out(it: MaybePeerFinished) -> Finished {
 }
 
 /// The state by its phase: 1 Established, 2 Terminating, 3 Closing.
-fn state_in(b: Bond) -> BindState {
+fn state_in(b: Bond) -> BindState
+    ensures { λ r. ⌜ r ≡ stateIn b ⌝ }
+{
     let phase = b.phase;
     match phase {
         1 => BindState::Established,
@@ -286,7 +336,9 @@ fn state_in(b: Bond) -> BindState {
     }
 }
 
-pub fn binding_in(b: Bond) -> MaybeBinding {
+pub fn binding_in(b: Bond) -> MaybeBinding
+    ensures { λ r. ⌜ r ≡ bindingIn b ⌝ }
+{
     if !b.some {
         return MaybeBinding::None;
     }
@@ -302,7 +354,9 @@ pub fn binding_in(b: Bond) -> MaybeBinding {
 }
 
 /// A binding in that phase.
-fn bond(b: Binding, phase: u8, code: u8, sent_at: u64, deadline: Number) -> Bond {
+fn bond(b: Binding, phase: u8, code: u8, sent_at: u64, deadline: Number) -> Bond
+    ensures { λ r. ⌜ r ≡ bondOf b phase code «sent_at» deadline ⌝ }
+{
     Bond {
         some: true,
         phase,
@@ -318,7 +372,9 @@ fn bond(b: Binding, phase: u8, code: u8, sent_at: u64, deadline: Number) -> Bond
 }
 
 /// No binding.
-fn no_bond() -> Bond {
+fn no_bond() -> Bond
+    ensures { λ r. ⌜ r ≡ noBond ⌝ }
+{
     Bond {
         some: false,
         phase: 1,
@@ -333,7 +389,9 @@ fn no_bond() -> Bond {
     }
 }
 
-pub fn binding_out(it: MaybeBinding) -> Bond {
+pub fn binding_out(it: MaybeBinding) -> Bond
+    ensures { λ r. ⌜ r ≡ bindingOut it ⌝ }
+{
     let MaybeBinding::Some(b) = it else {
         return no_bond();
     };

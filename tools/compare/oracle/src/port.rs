@@ -666,9 +666,7 @@ mod tests {
             let mut record = bound();
             spoil(&mut record, bad);
             let done = called(record, 38, 0);
-            let outside = matches!(bad, Bad::Flow | Bad::Policy | Bad::Phase | Bad::OutputKind);
-            let first = if outside { Refusal::BadRecord } else { Refusal::BadMessage };
-            assert_eq!(answer(&done.reply), Answer::Refused(first), "{bad:?}");
+            assert_eq!(answer(&done.reply), Answer::Refused(Refusal::BadRecord), "{bad:?}");
             assert_eq!(answer(&called(record, 3, 1).reply), Answer::Refused(Refusal::BadRecord));
             assert_eq!(done.record, record);
             assert_eq!(deadline(&record), Err(Answer::Refused(Refusal::BadRecord)));

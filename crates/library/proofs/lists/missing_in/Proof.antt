@@ -1,11 +1,16 @@
--- Each turn is at a place below the room.
+-- Each turn puts the image of one place at its place; after the last the array is the list of images.
 use borrow.Author.Needs.{needs}
-use Prim.Native.Nat.{_≤_, _-_}
+use Prim.Native.Nat.{_<_, _≤_, _-_}
+use mathlib.Core.Path.{_≡_, refl}
+use native.Mathlib.Omega.{arith}
+use Rattle.rings.proofs.Laws.{long-of}
+use Rattle.library.specs.Parts.{gapIn}
+use Rattle.library.proofs.Copying.{copied, Upto, placed, filled}
 use Rattle.library.proofs.lists.missing_in.Statement.{statement}
 use Rattle.library.proofs.lists.missing_in.Tie as tie
 
 abbrev Inv-loop : tie.InvT-loop
-Inv-loop m ring₀ i₀ ring i = i ≤ 65
+Inv-loop m ring₀ i₀ ring i = Upto gapIn (m .slots) (ring₀ .slots) (ring .slots) i 65
 
 abbrev μ-loop : tie.MeasureT-loop
 μ-loop m ring₀ i₀ ring i = 65 - i
@@ -14,7 +19,8 @@ new-requires : tie.Need-new-requires Inv-loop μ-loop
 new-requires c κs = search needs
 
 loop-holds : tie.Need-loop-holds Inv-loop μ-loop
-loop-holds c = search needs
+unfolding copied
+loop-holds c = record { few = search needs; long = search (needs, long-of); room = search (needs, long-of); is = refl }
 
 mul-r : tie.Need-mul-r Inv-loop μ-loop
 mul-r c = search needs
@@ -38,10 +44,18 @@ loop-less : tie.Need-loop-less Inv-loop μ-loop
 loop-less c = search needs
 
 loop-again : tie.Need-loop-again Inv-loop μ-loop
-loop-again c = search needs
+loop-again c =
+    let l = c .before .before .before .loop in
+    let h : l .i < 65 = omega arith in
+    placed gapIn (c .before .before .before .before .before .args .t1 .slots) _ (l .ring .slots) (l .i) 65 _ _ (l .inv) h (c .gap-in .ensures)
 
 returns : tie.Need-returns Inv-loop μ-loop
-returns c = search needs
+returns c =
+    let a = c .before .before .before .args .t1 in
+    let l = c .before .loop in
+    let h : 65 ≤ l .i = omega arith in
+    let e : l .ring .slots ≡ _ = filled gapIn (a .slots) _ (l .ring .slots) (l .i) 65 (l .inv) h in
+    λ j. record { slots = e j; head = a .head; count = a .count }
 
 pub missing-in-spec : {M : Type 1} → statement M
 missing-in-spec =

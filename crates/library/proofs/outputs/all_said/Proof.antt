@@ -1,4 +1,4 @@
--- Each turn is at a place below the room.
+-- stub
 use borrow.Author.Needs.{needs}
 use Prim.Native.Nat.{_≤_, _-_}
 use Rattle.library.proofs.outputs.all_said.Statement.{statement}
