@@ -3,3 +3,4 @@ pub mod Parts
 pub mod Answers
 pub mod Records
 pub mod Rounds
+pub mod Outputs

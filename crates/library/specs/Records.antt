@@ -7,14 +7,21 @@ use Rattle.rings.specs.declared.gap_ring.GapRing.{GapRing}
 use Rattle.rings.specs.declared.run_ring.RunRing.{RunRing}
 use Rattle.rings.specs.declared.gaps.Gaps.{Gaps}
 use Rattle.session.specs.declared.Session.{Session}
+use Rattle.queue.specs.declared.Outputs.{Outputs}
+use Rattle.calls.specs.declared.Called.{Called}
+use Rattle.types.specs.Flows.{flowNumber}
 use Rattle.trace.specs.declared.records.Entry.{Entry}
 use Rattle.trace.specs.declared.records.Entry.the-variants as entry
 use Rattle.library.specs.declared.mirror.Missing.{Missing}
 use Rattle.library.specs.declared.mirror.Overflow.{Overflow}
 use Rattle.library.specs.declared.mirror.Record.{Record}
 use Rattle.library.specs.declared.mirror.Request.{Request}
+use Rattle.library.specs.declared.mirror.Done.{Done}
 use Rattle.library.specs.Numbers.{flowIn}
 use Rattle.library.specs.Parts.{gapIn, gapOut, idIn, textIn, seqIn, configIn, outstandingIn, replayIn, providerIn, finishedIn, bindingIn}
+use Rattle.library.specs.Parts.{idOut, textOut, seqOut, configOut, outstandingOut, replayOut, providerOut, finishedOut, bindingOut}
+use Rattle.library.specs.Outputs.{queueOut}
+use Rattle.library.specs.Answers.{answerOut}
 
 -- ---- the rings, place by place
 abbrev pub missingIn : Missing → GapRing
@@ -54,6 +61,33 @@ sessionIn r =
 
 abbrev pub linkIn : Record → Link
 linkIn r = record { binding = bindingIn (r .bond); reason = textIn (r .reason) }
+
+abbrev pub recordOut : Session → Link → Outputs → Record
+recordOut s l q =
+    record {
+      id = idOut (s .id);
+      «local_flow» = flowNumber (s .«local_flow»);
+      «remote_flow» = flowNumber (s .«remote_flow»);
+      «start_pending» = s .«start_pending»;
+      «awaiting_resume» = s .«awaiting_resume»;
+      finalized = s .finalized;
+      config = configOut (s .config);
+      «outbound_next» = s .«outbound_next» .0;
+      «inbound_next» = seqOut (s .«inbound_next» .it);
+      missing = missingOut (s .gaps .missing);
+      overflow = overflowOut (s .gaps .«overflow_received»);
+      asked = outstandingOut (s .outstanding .it);
+      batch = replayOut (s .replay .it);
+      served = providerOut (s .provider .it);
+      finished = finishedOut (s .«peer_finished» .it);
+      bond = bindingOut (l .binding);
+      reason = textOut (l .reason);
+      queue = queueOut q;
+    }
+
+-- what a call leaves, and its answer
+abbrev pub doneOut : Called → Done
+doneOut r = record { «record» = recordOut (r .session) (r .link) (r .queue); reply = answerOut (r .answer) }
 
 -- ---- the call: what is no call is refused before
 abbrev pub isMalformed : Entry → Bool

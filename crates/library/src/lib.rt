@@ -1,7 +1,7 @@
 //! The calls for C and Rust: records as plain numbers, by value in and out.
 ghost use mathlib.Core.Path.{_≡_};
 ghost use Rattle.calls.specs.View.{Answered};
-ghost use Rattle.library.specs.Records.{sessionIn, linkIn, callOf, isMalformed};
+ghost use Rattle.library.specs.Records.{sessionIn, linkIn, recordOut, doneOut, callOf, isMalformed};
 use crate::answers::answer_out;
 use crate::answers::numbered;
 use crate::answers::refusal_out;
@@ -116,7 +116,9 @@ fn link_in(plain: Record) -> Link
     Link { binding, reason }
 }
 
-fn record_out(s: Session, link: Link, q: Outputs) -> Record {
+fn record_out(s: Session, link: Link, q: Outputs) -> Record
+    ensures { λ r. ⌜ r ≡ recordOut s link q ⌝ }
+{
     let id = s.id;
     let local_flow = s.local_flow;
     let remote_flow = s.remote_flow;
@@ -158,7 +160,9 @@ fn record_out(s: Session, link: Link, q: Outputs) -> Record {
     }
 }
 
-fn done_of(called: Called) -> Done {
+fn done_of(called: Called) -> Done
+    ensures { λ r. ⌜ r ≡ doneOut called ⌝ }
+{
     let session = called.session;
     let link = called.link;
     let queue = called.queue;

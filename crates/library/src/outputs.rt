@@ -1,4 +1,6 @@
 //! The outputs. Kinds: a message sent has the kind of its trace record (01), 1 is CloseTransport, and events are 101 to 113 in the order of `Event`.
+ghost use mathlib.Core.Path.{_≡_};
+ghost use Rattle.library.specs.Outputs.{bareOut, codedOut, countedOut, messageOut, eventOut, saidOut, outputOut, queueOut};
 use crate::codes::by_in;
 use crate::codes::by_out;
 use crate::codes::is_name;
@@ -156,7 +158,9 @@ fn is_said(o: Out) -> bool {
 }
 
 /// An output of that kind, of which no other field speaks.
-fn bare(kind: u8) -> Out {
+fn bare(kind: u8) -> Out
+    ensures { λ r. ⌜ r ≡ bareOut kind ⌝ }
+{
     let none = Reason::none();
     Out {
         kind,
@@ -174,14 +178,18 @@ fn bare(kind: u8) -> Out {
 }
 
 /// An output of that kind with a code.
-fn coded(kind: u8, code: u8) -> Out {
+fn coded(kind: u8, code: u8) -> Out
+    ensures { λ r. ⌜ r ≡ codedOut kind code ⌝ }
+{
     let mut o = bare(kind);
     o.code = code;
     o
 }
 
 /// An output of that kind with a number and a count.
-fn counted(kind: u8, number: SeqNum, count: u32) -> Out {
+fn counted(kind: u8, number: SeqNum, count: u32) -> Out
+    ensures { λ r. ⌜ r ≡ countedOut kind number count ⌝ }
+{
     let mut o = bare(kind);
     o.number = number.0;
     o.count = count;
@@ -189,7 +197,9 @@ fn counted(kind: u8, number: SeqNum, count: u32) -> Out {
 }
 
 /// A message sent.
-fn message_out(message: SessionMessage) -> Out {
+fn message_out(message: SessionMessage) -> Out
+    ensures { λ r. ⌜ r ≡ messageOut message ⌝ }
+{
     match message {
         SessionMessage::Sequence(m) => counted(32, m.next_seq_no, 0),
         SessionMessage::UnsequencedHeartbeat => bare(34),
@@ -232,7 +242,9 @@ fn message_out(message: SessionMessage) -> Out {
 }
 
 /// An event.
-fn event_out(event: Event) -> Out {
+fn event_out(event: Event) -> Out
+    ensures { λ r. ⌜ r ≡ eventOut event ⌝ }
+{
     match event {
         Event::Refused(name) => coded(101, name_out(name)),
         Event::SequenceGap { from, count } => {
@@ -267,7 +279,9 @@ fn event_out(event: Event) -> Out {
     }
 }
 
-fn said_out(said: Said) -> Out {
+fn said_out(said: Said) -> Out
+    ensures { λ r. ⌜ r ≡ saidOut said ⌝ }
+{
     match said {
         Said::Send(message) => message_out(message),
         Said::SendApplication { seq, message } => {
@@ -292,7 +306,9 @@ fn output_in(o: Out) -> Output {
     }
 }
 
-fn output_out(o: Output) -> Out {
+fn output_out(o: Output) -> Out
+    ensures { λ r. ⌜ r ≡ outputOut o ⌝ }
+{
     let said = o.said;
     let reason = o.text;
     let mut out = said_out(said);
@@ -318,13 +334,15 @@ pub fn queue_in(q: Queue) -> Outputs {
     outputs
 }
 
-pub fn queue_out(outputs: Outputs) -> Queue {
+pub fn queue_out(outputs: Outputs) -> Queue
+    ensures { λ r. ⌜ r ≡ queueOut outputs ⌝ }
+{
     let none = bare(1);
     let mut q = Queue {
         slots: [none; MAX_OUTPUTS],
-        head: outputs.head,
-        count: outputs.count,
-        closing: outputs.closing,
+        head: 0,
+        count: 0,
+        closing: false,
     };
     let mut i: usize = 0;
     while i < MAX_OUTPUTS {
@@ -333,6 +351,9 @@ pub fn queue_out(outputs: Outputs) -> Queue {
         q.slots[i] = o;
         i = i + 1;
     }
+    q.head = outputs.head;
+    q.count = outputs.count;
+    q.closing = outputs.closing;
     q
 }
 
