@@ -103,7 +103,53 @@ pub struct Call {
     pub stamp: u64,
     /// Outputs taken to be in the queue already; they are gone again after the call.
     pub queued: u8,
+    /// What of the record is taken to be out of range in this call alone.
+    pub bad: Option<Bad>,
     pub action: Action,
+}
+
+/// A part of a record that is out of range: 01's refusal 1. The last four are numbers outside their lists, which only
+/// the port's plain records can hold.
+#[derive(Debug, Clone, Copy, PartialEq, Eq)]
+pub enum Bad {
+    MaxGapLen,
+    MaxRetransmitCount,
+    NoPendingGaps,
+    ManyPendingGaps,
+    GapCount,
+    GapHead,
+    RunCount,
+    RunHead,
+    OutputCount,
+    OutputHead,
+    ReasonLength,
+    OutputReason,
+    Flow,
+    Policy,
+    Phase,
+    OutputKind,
+}
+
+impl Bad {
+    /// Every way.
+    pub const ALL: [Self; 16] = [
+        Self::MaxGapLen,
+        Self::MaxRetransmitCount,
+        Self::NoPendingGaps,
+        Self::ManyPendingGaps,
+        Self::GapCount,
+        Self::GapHead,
+        Self::RunCount,
+        Self::RunHead,
+        Self::OutputCount,
+        Self::OutputHead,
+        Self::ReasonLength,
+        Self::OutputReason,
+        Self::Flow,
+        Self::Policy,
+        Self::Phase,
+        Self::OutputKind,
+    ];
 }
 
 impl Action {

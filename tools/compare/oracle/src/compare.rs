@@ -102,6 +102,7 @@ fn compare_script(
         Begin::Open(call) => next = Some(*call),
         Begin::Planted(start) => {
             let (left, right) = (left.start(&start), right.start(&start));
+            stats.begin(&start);
             history.start = Some(*start);
             if left != right {
                 let (left, right) = (Box::new(left), Box::new(right));

@@ -70,7 +70,7 @@ fn open(max_pending_gaps: u16) -> Open {
 }
 
 fn record(action: Action) -> Vec<u8> {
-    let call = Call { now: 1, stamp: 2, queued: 0, action };
+    let call = Call { now: 1, stamp: 2, queued: 0, bad: None, action };
     trace::record_bytes(&call).expect("the call has a record")
 }
 

@@ -3,6 +3,7 @@
 
 include!(concat!(env!("OUT_DIR"), "/modules.rs"));
 
+pub mod alter;
 pub mod call;
 pub mod checks;
 pub mod codes;
@@ -13,8 +14,13 @@ pub mod cover;
 pub mod edges;
 pub mod generate;
 pub mod history;
+#[cfg(port)]
+mod mirror;
 pub mod mutants;
 pub mod oracle;
+#[cfg(port)]
+pub mod port;
+mod reach;
 pub mod reasons;
 mod refuse;
 pub mod reply;

@@ -1,7 +1,6 @@
 //! Subjects that are wrong on purpose, to show that the comparison finds them.
 
 use crate::call::{Action, Call, Config, Peer};
-use crate::oracle::Oracle;
 use crate::reply::{Answer, Reply};
 use crate::state::{Snapshot, Start, Status};
 use crate::subject::Subject;
@@ -38,9 +37,9 @@ impl Slip {
     ];
 }
 
-/// The oracle with a slip.
+/// A subject with a slip.
 pub struct Mutant {
-    inner: Oracle,
+    inner: Box<dyn Subject>,
     slip: Slip,
     config: Option<Config>,
     last: Option<Snapshot>,
@@ -48,8 +47,8 @@ pub struct Mutant {
 
 impl Mutant {
     /// No session yet.
-    pub fn new(slip: Slip) -> Self {
-        Self { inner: Oracle::new(), slip, config: None, last: None }
+    pub fn new(slip: Slip, inner: Box<dyn Subject>) -> Self {
+        Self { inner, slip, config: None, last: None }
     }
 
     /// Sets the session up anew with a change.

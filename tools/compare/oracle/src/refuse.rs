@@ -6,10 +6,13 @@ use crate::state::Status;
 
 /// The refusal that a call meets before the source sees it.
 ///
-/// 3 to 7 come as numbered. 14 stands behind 8 in the order, so it is given here only where the
+/// The source holds no record out of range: 1 is what the call says of its own. 3 to 7 come as numbered. 14 stands behind 8 in the order, so it is given here only where the
 /// source would not give 8.
 pub(crate) fn before_source(call: &Call, status: Status) -> Option<Refusal> {
     let action = &call.action;
+    if call.bad.is_some() {
+        return Some(Refusal::BadRecord);
+    }
     if needs_binding(action) && status == Status::Unbound {
         return Some(Refusal::NotBound);
     }

@@ -107,6 +107,7 @@ fn smaller_numbers(best: &mut History, fails: &mut Fails<'_>) -> bool {
     }
     for index in 0..best.calls.len() {
         changed |= attempt(best, fails, |calls| calls[index].queued = 0);
+        changed |= attempt(best, fails, |calls| calls[index].bad = None);
         changed |= attempt(best, fails, |calls| shorten_reason(&mut calls[index]));
         let mut count = 0;
         each_number(&mut best.calls[index].clone(), &mut |_| count += 1);

@@ -18,7 +18,7 @@ const CONFIG: Config = Config {
 };
 
 fn run(oracle: &mut Oracle, action: Action) -> Reply {
-    oracle.call(&Call { now: 0, stamp: 7, queued: 0, action })
+    oracle.call(&Call { now: 0, stamp: 7, queued: 0, bad: None, action })
 }
 
 fn bind(oracle: &mut Oracle) -> Reply {

@@ -7,7 +7,7 @@ use oracle::trace;
 const ID: [u8; 16] = [7; 16];
 
 fn at_zero(stamp: u64, action: Action) -> Call {
-    Call { now: 0, stamp, queued: 0, action }
+    Call { now: 0, stamp, queued: 0, bad: None, action }
 }
 
 #[test]

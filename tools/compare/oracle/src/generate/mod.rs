@@ -12,7 +12,7 @@ mod values;
 
 use profile::Profile;
 
-use crate::call::{Action, Call, Config, NO_STAMP, QUEUE_PLACES};
+use crate::call::{Action, Bad, Call, Config, NO_STAMP, QUEUE_PLACES};
 use crate::codes::Flow;
 use crate::rng::Rng;
 use crate::state::{SessionState, Snapshot, Start, Status};
@@ -95,8 +95,7 @@ impl Script {
             script.now = planted::latest(&start);
             return (script, Begin::Planted(Box::new(start)));
         }
-        let call =
-            Call { now: script.now, stamp: script.stamp, queued: 0, action: Action::Open(open) };
+        let call = first(script.now, script.stamp, Action::Open(open));
         (script, Begin::Open(Box::new(call)))
     }
 
@@ -127,7 +126,7 @@ impl Script {
         } else {
             Action::Release
         };
-        Call { now: self.now, stamp: self.stamp, queued: 0, action }
+        first(self.now, self.stamp, action)
     }
 
     fn choose(&mut self, snapshot: &Snapshot) -> Call {
@@ -148,10 +147,16 @@ impl Script {
         } else {
             0
         };
+        let bad = if !self.options.traceable && self.rng.one_in(200) {
+            Some(self.rng.pick(&Bad::ALL))
+        } else {
+            None
+        };
         Call {
             now: now.min(time::last(self.options.wide)),
             stamp: self.choose_stamp(),
             queued,
+            bad,
             action,
         }
     }
@@ -267,4 +272,9 @@ impl Script {
             _ => self.stamp,
         }
     }
+}
+
+/// A call on an empty queue and a good record.
+const fn first(now: u64, stamp: u64, action: Action) -> Call {
+    Call { now, stamp, queued: 0, bad: None, action }
 }

@@ -7,6 +7,19 @@ mod write;
 pub use read::record;
 pub use write::{history, record_bytes};
 
+use crate::history::History;
+
+/// The calls of an input up to its first malformed record; none of one too long.
+pub fn calls(input: &[u8]) -> History {
+    let mut history = History::default();
+    let mut rest = if input.len() > MAX_BYTES { &[] } else { input };
+    while let Some((call, behind)) = record(rest) {
+        history.calls.push(call);
+        rest = behind;
+    }
+    history
+}
+
 /// The most bytes the trace program reads.
 pub const MAX_BYTES: usize = 65_536;
 

@@ -18,7 +18,7 @@ pub fn record(bytes: &[u8]) -> Option<(Call, &[u8])> {
     let stamp = fields.u64()?;
     let action = action(kind, &mut fields)?;
     // A body longer than its kind's is malformed; a reason has taken the rest.
-    fields.0.is_empty().then_some((Call { now, stamp, queued: 0, action }, rest))
+    fields.0.is_empty().then_some((Call { now, stamp, queued: 0, bad: None, action }, rest))
 }
 
 /// What is left of a record.

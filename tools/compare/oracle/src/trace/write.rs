@@ -12,7 +12,7 @@ pub fn history(calls: &[Call]) -> Option<Vec<u8>> {
 /// The record of one call. A queue in use, `transport_closed` and a present number of all ones where
 /// all ones mean absent have none.
 pub fn record_bytes(call: &Call) -> Option<Vec<u8>> {
-    if call.queued != 0 {
+    if call.queued != 0 || call.bad.is_some() {
         return None;
     }
     let (kind, body) = body(&call.action)?;

@@ -1,0 +1,6 @@
+pub mod Numbers
+pub mod Parts
+pub mod Answers
+pub mod Records
+pub mod Rounds
+pub mod Outputs
