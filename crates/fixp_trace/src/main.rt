@@ -4,5 +4,5 @@ use libc::STDIN_FILENO;
 fn main() {
     let mut buf = [0u8; 65537];
     let n = io::read_full(STDIN_FILENO, &mut buf);
-    replay::run_trace(&buf[..n]);
+    replay::print_trace(&buf[..n]);
 }

@@ -1,11 +1,13 @@
-//! A trace's records run one after another, a line printed for each (01, "Trace program").
+//! A trace's records run one after another, a line for each (01, "Trace program").
 ghost use mathlib.Core.Path.{_≡_};
 ghost use mathlib.Core.Bool.{true};
 ghost use Prim.Native.Nat.{_≤_, _+_, _-_};
 ghost use lib.ListN.{length};
 ghost use Rattle.types.specs.Base.{if_then_else_};
 ghost use Rattle.rings.specs.View.{GapRingWf, gapList, soundGaps};
+ghost use Rattle.session.specs.View.{view};
 ghost use Rattle.replay.specs.Missing.{atMost, missingFigure};
+ghost use Rattle.replay.specs.Ordinary.{LiveIf, SameIf, SentIf, QuickIs};
 use calls::Called;
 use libc::STDOUT_FILENO;
 use queue::Outputs;
@@ -16,16 +18,26 @@ use trace::records::Entry;
 use trace::records::Record;
 use trace::text::Line;
 use types::answers::Answer;
+use types::answers::Delivery;
 use types::answers::Refusal;
 use types::answers::SessionStatus;
+use types::binding::Binding;
 use types::binding::Link;
 use types::binding::MaybeBinding;
 use types::ids::ALL_ONES;
+use types::ids::Instant;
+use types::ids::MaybeSeq;
+use types::ids::SeqNum;
+use types::messages::PeerMessage;
 use types::parts::Gap;
 use types::parts::MaybeGap;
+use types::parts::SeqSlot;
 
 /// The longest input in bytes.
 const MAX_INPUT: usize = 65536;
+
+/// Room for every line of the longest input: a record has at least 20 bytes and a line at most 144.
+const MAX_OUTPUT: usize = 524288;
 
 fn print(line: Line)
     requires { ⌜ line .len ≤ 144 ⌝ }
@@ -33,6 +45,34 @@ fn print(line: Line)
     let n = line.len;
     let bytes = line.bytes;
     io::write_all(STDOUT_FILENO, &bytes[..n]);
+}
+
+/// The bytes that wait are written.
+fn write_out(out: &[u8], n: usize)
+    requires { ⌜ n ≤ length (now out) ⌝ }
+{
+    io::write_all(STDOUT_FILENO, &out[..n]);
+}
+
+/// A line behind the bytes that wait in the buffer, which are written first where there is no room.
+fn put(out: &mut [u8], at: usize, line: Line) -> usize
+    requires { ⌜ line .len ≤ 144 ⌝ }
+    requires { ⌜ at ≤ length (now out) ⌝ }
+    ensures { λ r. ⌜ (r ≤ length (now (out .exit))) × (length (now (out .exit)) ≡ length (now (out .entry))) ⌝ }
+{
+    let n = line.len;
+    let bytes = line.bytes;
+    if out.len() - at < n {
+        write_out(out, at);
+        print(line);
+        return 0;
+    }
+    let mut i: usize = 0;
+    while i < n {
+        out[at + i] = bytes[i];
+        i = i + 1;
+    }
+    at + n
 }
 
 fn wide(n: usize) -> u64 {
@@ -163,31 +203,154 @@ fn goes_on(entry: Entry) -> bool {
     }
 }
 
-/// The line of a record, after which the queue is emptied.
-fn print_called(index: u64, called: Called) {
-    let session = called.session;
-    let link = called.link;
-    let queue = called.queue;
-    let answer = called.answer;
+/// The line of a record: where session and binding stand after it.
+fn line_of(index: u64, answer: Answer, session: Session, link: Link, outputs: u64) -> Line
+    ensures { λ r. ⌜ r .len ≤ 144 ⌝ }
+{
     let gaps = session.gaps;
     let ring = gaps.missing;
-    print(trace::text::record_line(
+    trace::text::record_line(
         index,
         answer,
         status_of(link),
         session.next_inbound_seq(),
         wide(ring.len()),
-        wide(queue.len()),
-    ));
+        outputs,
+    )
 }
 
-/// The records behind an open.
-fn run(s: &[u8], start: usize, opened: Called)
+/// An ordinary record, which changes a few fields and queues nothing.
+pub enum Quick {
+    Live(SeqNum),
+    Same,
+    Sent(SeqNum),
+    No,
+}
+
+/// Whether an announced number is an ordinary one.
+fn quick_sequence(session: Session, binding: Binding, message: PeerMessage) -> Quick
+    ensures { λ r. ⌜ SameIf r message (view session) binding ⌝ }
+{
+    let PeerMessage::Sequence(m) = message else {
+        return Quick::No;
+    };
+    let next = m.next_seq_no;
+    if fast::same(session, binding, next) {
+        return Quick::Same;
+    }
+    Quick::No
+}
+
+/// Whether a live message is an ordinary one.
+fn quick_live(session: Session, binding: Binding) -> Quick
+    ensures { λ r. ⌜ LiveIf r (view session) binding ⌝ }
+{
+    let MaybeSeq::Some(seq) = fast::live(session, binding) else {
+        return Quick::No;
+    };
+    if seq.0 == ALL_ONES {
+        return Quick::No;
+    }
+    Quick::Live(seq)
+}
+
+/// Whether a message is sent in the ordinary way.
+fn quick_send(session: Session, binding: Binding) -> Quick
+    ensures { λ r. ⌜ SentIf r (view session) binding ⌝ }
+{
+    if !fast::sent(session, binding) {
+        return Quick::No;
+    }
+    let seq = session.outbound_next;
+    if seq.0 == ALL_ONES {
+        return Quick::No;
+    }
+    Quick::Sent(seq)
+}
+
+/// Whether a record is an ordinary one.
+fn quick_of(session: Session, link: Link, queue: Outputs, record: Record) -> Quick
+    ensures { λ r. ⌜ QuickIs r «record» session link queue ⌝ }
+{
+    let it = link.binding;
+    let MaybeBinding::Some(binding) = it else {
+        return Quick::No;
+    };
+    let reason = link.reason;
+    if !fast::is_ready(session, reason, queue) {
+        return Quick::No;
+    }
+    let text = record.reason;
+    if !text.fits() {
+        return Quick::No;
+    }
+    let entry = record.entry;
+    match entry {
+        Entry::Open {
+            id,
+            local_flow,
+            remote_flow,
+            config,
+        } => Quick::No,
+        Entry::Bind {
+            local_keepalive,
+            remote_keepalive,
+            next,
+        } => Quick::No,
+        Entry::Release => Quick::No,
+        Entry::Application => quick_live(session, binding),
+        Entry::Peer(message) => quick_sequence(session, binding, message),
+        Entry::Send => quick_send(session, binding),
+        Entry::Terminate(code) => Quick::No,
+        Entry::Retransmit(count) => Quick::No,
+        Entry::Reject(code) => Quick::No,
+        Entry::End => Quick::No,
+        Entry::Timeout => Quick::No,
+        Entry::Malformed => Quick::No,
+    }
+}
+
+/// The binding has just heard from the peer.
+fn heard(link: Link, now: Instant) -> Link {
+    let reason = link.reason;
+    let it = link.binding;
+    let MaybeBinding::Some(binding) = it else {
+        return link;
+    };
+    let mut after = binding;
+    after.last_received = now;
+    Link {
+        binding: MaybeBinding::Some(after),
+        reason,
+    }
+}
+
+/// The binding has just sent.
+fn kept_alive(link: Link, now: Instant) -> Link {
+    let reason = link.reason;
+    let it = link.binding;
+    let MaybeBinding::Some(binding) = it else {
+        return link;
+    };
+    let mut after = binding;
+    after.last_keepalive = now;
+    Link {
+        binding: MaybeBinding::Some(after),
+        reason,
+    }
+}
+
+/// The records behind an open: how many bytes wait in the buffer.
+fn run(s: &[u8], start: usize, opened: Called, out: &mut [u8], first: usize) -> usize
     requires { ⌜ start ≤ length (now s) ⌝ }
     requires { ⌜ length (now s) ≤ 65536 ⌝ }
+    requires { ⌜ first ≤ length (now out) ⌝ }
+    ensures { λ r. ⌜ (r ≤ length (now (out .exit))) × (length (now (out .exit)) ≡ length (now (out .entry))) ⌝ }
 {
     let mut session = opened.session;
     let mut link = opened.link;
+    let mut queue = opened.queue;
+    let mut wrote = first;
     let mut at = start;
     let mut index: u64 = 1;
     while at < s.len() {
@@ -195,31 +358,64 @@ fn run(s: &[u8], start: usize, opened: Called)
         let record = trace::records::read_record(r);
         let entry = record.entry;
         if r.len() == 0 {
-            print(trace::text::stop_line(index));
-            return;
+            return put(out, wrote, trace::text::stop_line(index));
         }
         if !goes_on(entry) {
-            print(trace::text::stop_line(index));
-            return;
+            return put(out, wrote, trace::text::stop_line(index));
         }
-        let done = call(session, link, Outputs::new(), record);
-        print_called(index, done);
-        session = done.session;
-        link = done.link;
+        let now = record.now;
+        let mut answer = Answer::Ok;
+        let mut outputs: u64 = 0;
+        let quick = quick_of(session, link, queue, record);
+        match quick {
+            Quick::Live(seq) => {
+                let slot = SeqSlot {
+                    it: MaybeSeq::Some(SeqNum(seq.0 + 1)),
+                };
+                session.inbound_next = slot;
+                session.start_pending = false;
+                link = heard(link, now);
+                answer = Answer::Delivered(Delivery::Accept {
+                    seq: MaybeSeq::Some(seq),
+                    retransmitted: false,
+                });
+            }
+            Quick::Same => {
+                session.awaiting_resume = false;
+                link = heard(link, now);
+            }
+            Quick::Sent(seq) => {
+                let following = SeqNum(seq.0 + 1);
+                session.outbound_next = following;
+                link = kept_alive(link, now);
+                answer = Answer::Sent(MaybeSeq::Some(seq));
+            }
+            Quick::No => {
+                let done = call(session, link, queue, record);
+                session = done.session;
+                link = done.link;
+                queue = done.queue;
+                answer = done.answer;
+                outputs = wide(queue.len());
+                queue.count = 0;
+            }
+        }
+        wrote = put(out, wrote, line_of(index, answer, session, link, outputs));
         at = at + r.len();
         index = index + 1;
     }
     let gaps = session.gaps;
-    print(trace::text::end_line(missing_in(gaps)));
+    put(out, wrote, trace::text::end_line(missing_in(gaps)))
 }
 
 /// The records behind a refused open: there must be none.
-fn run_refused(s: &[u8], start: usize) {
+fn run_refused(s: &[u8], start: usize) -> Line
+    ensures { λ r. ⌜ r .len ≤ 144 ⌝ }
+{
     if start < s.len() {
-        print(trace::text::stop_line(1));
-        return;
+        return trace::text::stop_line(1);
     }
-    print(trace::text::end_line(0));
+    trace::text::end_line(0)
 }
 
 fn is_refused(answer: Answer) -> bool {
@@ -233,14 +429,15 @@ fn is_refused(answer: Answer) -> bool {
 }
 
 /// A trace that is not empty begins with an open.
-fn run_from_open(s: &[u8])
+fn run_from_open(s: &[u8], out: &mut [u8], first: usize) -> usize
     requires { ⌜ length (now s) ≤ 65536 ⌝ }
+    requires { ⌜ first ≤ length (now out) ⌝ }
+    ensures { λ r. ⌜ r ≤ length (now (out .exit)) ⌝ }
 {
     let r = trace::reader::view(s, 0);
     let record = trace::records::read_record(r);
     if r.len() == 0 {
-        print(trace::text::stop_line(0));
-        return;
+        return put(out, first, trace::text::stop_line(0));
     }
     let entry = record.entry;
     let Entry::Open {
@@ -250,37 +447,46 @@ fn run_from_open(s: &[u8])
         config,
     } = entry
     else {
-        print(trace::text::stop_line(0));
-        return;
+        return put(out, first, trace::text::stop_line(0));
     };
     let opened = calls::open(id, local_flow, remote_flow, config);
     let answer = opened.answer;
     if is_refused(answer) {
-        print(trace::text::record_line(
+        let line = trace::text::record_line(
             0,
             answer,
             SessionStatus::Unbound,
             types::ids::MaybeSeq::None,
             0,
             0,
-        ));
-        run_refused(s, r.len());
-        return;
+        );
+        let next = put(out, first, line);
+        return put(out, next, run_refused(s, r.len()));
     }
-    print_called(0, opened);
-    run(s, r.len(), opened);
+    let session = opened.session;
+    let link = opened.link;
+    let next = put(out, first, line_of(0, answer, session, link, 0));
+    run(s, r.len(), opened, out, next)
 }
 
-/// Runs a whole trace. An input too long prints only `stop 0`.
-pub fn run_trace(s: &[u8]) {
+/// Runs a whole trace: its lines stand in the buffer, as many bytes as it says, or were written where there was no room. An input too
+/// long gives only `stop 0`.
+pub fn run_trace(s: &[u8], out: &mut [u8]) -> usize
+    ensures { λ r. ⌜ r ≤ length (now (out .exit)) ⌝ }
+{
     if s.len() > MAX_INPUT {
-        print(trace::text::stop_line(0));
-        return;
+        return put(out, 0, trace::text::stop_line(0));
     }
-    print(trace::text::first_line());
+    let first = put(out, 0, trace::text::first_line());
     if s.len() == 0 {
-        print(trace::text::end_line(0));
-        return;
+        return put(out, first, trace::text::end_line(0));
     }
-    run_from_open(s);
+    run_from_open(s, out, first)
+}
+
+/// Runs a whole trace and writes its lines.
+pub fn print_trace(s: &[u8]) {
+    let mut out = [0u8; MAX_OUTPUT];
+    let n = run_trace(s, &mut out);
+    write_out(&out, n);
 }

@@ -14,7 +14,7 @@ fn one(k: usize) {
     let mut buf = [0u8; 65537];
     let n = io::read_full(fd, &mut buf);
     libc::close(fd);
-    replay::run_trace(&buf[..n]);
+    replay::print_trace(&buf[..n]);
 }
 
 fn all(count: usize) {
