@@ -8,7 +8,8 @@ const UNCHANGED: [&str; 5] = ["clock", "error", "messages", "output", "types"];
 
 fn main() {
     println!("cargo:rerun-if-env-changed=FIXP_SOURCE");
-    link_port();
+    link("FIXP_PORT", "port", "library");
+    link("FIXP_BENCH", "bench", "bench");
     let source = folder("FIXP_SOURCE");
     let out = folder("OUT_DIR");
     let setup = folder("CARGO_MANIFEST_DIR").join("src/session_setup.rs");
@@ -25,18 +26,18 @@ fn main() {
     fs::write(out.join("modules.rs"), modules).expect("OUT_DIR is writable");
 }
 
-/// Links the archive that `FIXP_PORT` names, the port's; without it the tool has the Rust alone.
-fn link_port() {
-    println!("cargo:rustc-check-cfg=cfg(port)");
-    println!("cargo:rerun-if-env-changed=FIXP_PORT");
-    let Some(archive) = env::var_os("FIXP_PORT").map(PathBuf::from) else {
+/// Links the archive that a variable names, under a flag; without it the tool has the Rust alone.
+fn link(variable: &str, flag: &str, library: &str) {
+    println!("cargo:rustc-check-cfg=cfg({flag})");
+    println!("cargo:rerun-if-env-changed={variable}");
+    let Some(archive) = env::var_os(variable).map(PathBuf::from) else {
         return;
     };
-    let folder = archive.parent().expect("FIXP_PORT names a file in a folder");
+    let folder = archive.parent().expect("the variable names a file in a folder");
     println!("cargo:rerun-if-changed={}", archive.display());
-    println!("cargo:rustc-cfg=port");
+    println!("cargo:rustc-cfg={flag}");
     println!("cargo:rustc-link-search=native={}", folder.display());
-    println!("cargo:rustc-link-lib=static=library");
+    println!("cargo:rustc-link-lib=static={library}");
 }
 
 /// The text of `session.rs`, byte for byte, with one child module declared behind it.

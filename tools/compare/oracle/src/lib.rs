@@ -4,6 +4,8 @@
 include!(concat!(env!("OUT_DIR"), "/modules.rs"));
 
 pub mod alter;
+#[cfg(bench)]
+pub mod bench;
 pub mod call;
 pub mod checks;
 pub mod codes;

@@ -51,6 +51,12 @@ impl Session {
         }
     }
 
+    /// The number of gaps.
+    #[cfg(bench)]
+    pub(crate) fn gap_count(&self) -> usize {
+        self.missing.len()
+    }
+
     /// A session with these fields.
     pub(crate) fn build(state: &SessionState, base: Base) -> Self {
         Self {
