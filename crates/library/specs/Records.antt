@@ -2,7 +2,7 @@
 use mathlib.Core.Bool.{Bool, true, false}
 use mathlib.Core.List.{map}
 use Rattle.rules.specs.Names.{Instant, Nanotime, Link}
-use Rattle.rules.specs.Calls.{Call, bindCall, releaseCall, peerCall, applicationCall, sendCall, terminateCall, retransmitCall, rejectCall, endCall, timeoutCall}
+use Rattle.rules.specs.Calls.{Call}
 use Rattle.rings.specs.declared.gap_ring.GapRing.{GapRing}
 use Rattle.rings.specs.declared.run_ring.RunRing.{RunRing}
 use Rattle.rings.specs.declared.gaps.Gaps.{Gaps}
@@ -10,6 +10,7 @@ use Rattle.session.specs.declared.Session.{Session}
 use Rattle.queue.specs.declared.Outputs.{Outputs}
 use Rattle.calls.specs.declared.Called.{Called}
 use Rattle.types.specs.Flows.{flowNumber}
+use Rattle.dispatch.specs.Entries as entries
 use Rattle.trace.specs.declared.records.Entry.{Entry}
 use Rattle.trace.specs.declared.records.Entry.the-variants as entry
 use Rattle.library.specs.declared.mirror.Missing.{Missing}
@@ -111,15 +112,4 @@ abbrev pub stampOf : Request → Nanotime
 stampOf q = record { 0 = q .stamp }
 
 abbrev pub callOf : Entry → Request → Call
-callOf (entry.Open i l r g) q = releaseCall
-callOf (entry.Bind l r n) q = bindCall (nowOf q) (stampOf q) l r n
-callOf entry.Release q = releaseCall
-callOf entry.Application q = applicationCall (nowOf q) (stampOf q)
-callOf (entry.Peer m) q = peerCall (nowOf q) (stampOf q) m (textIn (q .reason))
-callOf entry.Send q = sendCall (nowOf q)
-callOf (entry.Terminate k) q = terminateCall (nowOf q) k (textIn (q .reason))
-callOf (entry.Retransmit n) q = retransmitCall (nowOf q) n
-callOf (entry.Reject k) q = rejectCall k (textIn (q .reason))
-callOf entry.End q = endCall
-callOf entry.Timeout q = timeoutCall (nowOf q) (stampOf q)
-callOf entry.Malformed q = releaseCall
+callOf e q = entries.callOf e (nowOf q) (stampOf q) (textIn (q .reason))

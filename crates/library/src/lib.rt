@@ -209,7 +209,7 @@ fn is_clean(r: Record) -> bool {
     all_said(queue)
 }
 
-/// The one place where calls are made.
+/// The call of an entry, with what the request says beside it.
 fn run(session: Session, link: Link, queue: Outputs, entry: Entry, request: Request) -> Called
     ensures { λ r. ⌜ Answered (callOf entry request) r session link queue ⌝ }
 {
@@ -217,40 +217,7 @@ fn run(session: Session, link: Link, queue: Outputs, entry: Entry, request: Requ
     let stamp = Nanotime(request.stamp);
     let text = request.reason;
     let reason = text_in(text);
-    match entry {
-        Entry::Open {
-            id,
-            local_flow,
-            remote_flow,
-            config,
-        } => calls::release(session, link, queue),
-        Entry::Bind {
-            local_keepalive,
-            remote_keepalive,
-            next,
-        } => {
-            calls::bind(
-                session,
-                link,
-                queue,
-                now,
-                stamp,
-                local_keepalive,
-                remote_keepalive,
-                next,
-            )
-        }
-        Entry::Release => calls::release(session, link, queue),
-        Entry::Application => calls::on_application(session, link, queue, now, stamp),
-        Entry::Peer(message) => calls::on_peer(session, link, queue, now, stamp, message, reason),
-        Entry::Send => calls::send_application(session, link, queue, now),
-        Entry::Terminate(code) => calls::terminate(session, link, queue, now, code, reason),
-        Entry::Retransmit(count) => calls::retransmit(session, link, queue, now, count),
-        Entry::Reject(code) => calls::reject_retransmit_request(session, link, queue, code, reason),
-        Entry::End => calls::end_retransmission(session, link, queue),
-        Entry::Timeout => calls::on_timeout(session, link, queue, now, stamp),
-        Entry::Malformed => calls::release(session, link, queue),
-    }
+    dispatch::run(session, link, queue, entry, now, stamp, reason)
 }
 
 fn is_malformed(entry: Entry) -> bool

@@ -19,7 +19,6 @@ use trace::records::Record;
 use trace::text::Line;
 use types::answers::Answer;
 use types::answers::Delivery;
-use types::answers::Refusal;
 use types::answers::SessionStatus;
 use types::binding::Binding;
 use types::binding::Link;
@@ -132,48 +131,6 @@ pub fn missing_in(gaps: Gaps) -> u64
     }
     let missing = gaps.missing;
     sum_of(missing)
-}
-
-/// A record's call on a session that is open.
-fn call(session: Session, link: Link, queue: Outputs, record: Record) -> Called {
-    let entry = record.entry;
-    let now = record.now;
-    let stamp = record.stamp;
-    let reason = record.reason;
-    match entry {
-        Entry::Open {
-            id,
-            local_flow,
-            remote_flow,
-            config,
-        } => calls::release(session, link, queue),
-        Entry::Bind {
-            local_keepalive,
-            remote_keepalive,
-            next,
-        } => {
-            calls::bind(
-                session,
-                link,
-                queue,
-                now,
-                stamp,
-                local_keepalive,
-                remote_keepalive,
-                next,
-            )
-        }
-        Entry::Release => calls::release(session, link, queue),
-        Entry::Application => calls::on_application(session, link, queue, now, stamp),
-        Entry::Peer(message) => calls::on_peer(session, link, queue, now, stamp, message, reason),
-        Entry::Send => calls::send_application(session, link, queue, now),
-        Entry::Terminate(code) => calls::terminate(session, link, queue, now, code, reason),
-        Entry::Retransmit(count) => calls::retransmit(session, link, queue, now, count),
-        Entry::Reject(code) => calls::reject_retransmit_request(session, link, queue, code, reason),
-        Entry::End => calls::end_retransmission(session, link, queue),
-        Entry::Timeout => calls::on_timeout(session, link, queue, now, stamp),
-        Entry::Malformed => calls::release(session, link, queue),
-    }
 }
 
 /// Whether a record may follow an open: neither another open nor malformed.
@@ -391,7 +348,9 @@ fn run(s: &[u8], start: usize, opened: Called, out: &mut [u8], first: usize) -> 
                 answer = Answer::Sent(MaybeSeq::Some(seq));
             }
             Quick::No => {
-                let done = call(session, link, queue, record);
+                let stamp = record.stamp;
+                let text = record.reason;
+                let done = dispatch::run(session, link, queue, entry, now, stamp, text);
                 session = done.session;
                 link = done.link;
                 queue = done.queue;

@@ -56,8 +56,8 @@ quick-of-requires c κs = search needs
 enum-known-quick : tie.Need-enum-known-quick Inv-loop μ-loop
 enum-known-quick c = search needs
 
-add-t34 : tie.Need-add-t34 Inv-loop μ-loop
-add-t34 c = let h = live-below _ _ _ _ _ _ (c .before .before .before .before .quick-of .ensures) (c .before .before .quick .given .1) in omega (arith, h)
+add-t36 : tie.Need-add-t36 Inv-loop μ-loop
+add-t36 c = let h = live-below _ _ _ _ _ _ (c .before .before .before .before .quick-of .ensures) (c .before .before .quick .given .1) in omega (arith, h)
 
 heard-requires : tie.Need-heard-requires Inv-loop μ-loop
 heard-requires c κs = search needs
@@ -71,8 +71,8 @@ heard-requires-2 c κs = search needs
 enum-known-quick-2 : tie.Need-enum-known-quick-2 Inv-loop μ-loop
 enum-known-quick-2 c = search needs
 
-add-t38 : tie.Need-add-t38 Inv-loop μ-loop
-add-t38 c = let h = sent-below _ _ _ _ _ _ (c .before .before .before .before .quick-of .ensures) (c .before .before .quick2 .given .1) in omega (arith, h)
+add-t40 : tie.Need-add-t40 Inv-loop μ-loop
+add-t40 c = let h = sent-below _ _ _ _ _ _ (c .before .before .before .before .quick-of .ensures) (c .before .before .quick2 .given .1) in omega (arith, h)
 
 kept-alive-requires : tie.Need-kept-alive-requires Inv-loop μ-loop
 kept-alive-requires c κs = search needs
@@ -80,8 +80,8 @@ kept-alive-requires c κs = search needs
 enum-told-2 : tie.Need-enum-told-2 Inv-loop μ-loop
 enum-told-2 c = search needs
 
-call-requires : tie.Need-call-requires Inv-loop μ-loop
-call-requires c κs = search needs
+run-requires : tie.Need-run-requires Inv-loop μ-loop
+run-requires c κs = search needs
 
 len-requires : tie.Need-len-requires Inv-loop μ-loop
 len-requires c κs = search needs
@@ -142,15 +142,15 @@ run-spec =
     returns-2
     quick-of-requires
     enum-known-quick
-    add-t34
+    add-t36
     heard-requires
     enum-told
     heard-requires-2
     enum-known-quick-2
-    add-t38
+    add-t40
     kept-alive-requires
     enum-told-2
-    call-requires
+    run-requires
     len-requires
     wide-requires
     line-of-requires
