@@ -1,5 +1,5 @@
 //! What calls cost, for tools/bench: loops over a record that is held in place. A call is made by its ordinary form, which stores the few
-//! fields that change, and where it is not an ordinary one by `calls`.
+//! fields that change; a loop whose call is not an ordinary one ends with 0, which tools/bench takes for a failure.
 ghost use Prim.Native.Nat.{_≤_};
 use calls::Called;
 use queue::Outputs;
@@ -38,13 +38,12 @@ use types::parts::ReplaySlot;
 use types::parts::SeqSlot;
 use types::reasons::Reason;
 
-/// A record, its link taken apart; `bound` says that it is bound.
+/// A record, its link taken apart. One that is not bound has a binding that no time has passed on.
 pub struct Held {
     pub session: Session,
     pub binding: Binding,
     pub reason: Reason,
     pub queue: Outputs,
-    pub bound: bool,
 }
 
 /// Every duration: no timer comes due.
@@ -118,6 +117,57 @@ fn with_gaps(gaps: u64) -> Called {
     called
 }
 
+/// The record with so many overflow runs too: a message, a gap over the limit, which unbinds, and a bind, over and over. The first such gap
+/// is held by itself and makes no run.
+fn with_runs(gaps: u64, runs: u64) -> Called {
+    let most = at_most(runs, 256);
+    let mut called = with_gaps(gaps);
+    let mut i: u64 = 0;
+    while i < most {
+        if i == 0 {
+            called = bound_again(lost_again(called));
+        }
+        called = bound_again(lost_again(called));
+        i = i + 1;
+    }
+    called
+}
+
+/// A message, and a Sequence that leaves out the one behind it.
+fn lost_again(called: Called) -> Called {
+    let session = called.session;
+    let link = called.link;
+    let heard = calls::on_application(session, link, Outputs::new(), Instant(0), Nanotime(7));
+    let next = heard.session;
+    let still = heard.link;
+    calls::on_peer(
+        next,
+        still,
+        Outputs::new(),
+        Instant(0),
+        Nanotime(7),
+        PeerMessage::Sequence(Sequence {
+            next_seq_no: SeqNum(following(next)),
+        }),
+        Reason::none(),
+    )
+}
+
+fn bound_again(called: Called) -> Called {
+    let session = called.session;
+    let link = called.link;
+    calls::bind(
+        session,
+        link,
+        Outputs::new(),
+        Instant(0),
+        Nanotime(7),
+        LONG,
+        LONG,
+        MaybeSeq::Some(SeqNum(expected(session))),
+    )
+}
+
 /// What a call left, its link taken apart and its outputs taken off.
 fn hold(called: Called) -> Held {
     let session = called.session;
@@ -132,7 +182,6 @@ fn hold(called: Called) -> Held {
             binding: bare(),
             reason,
             queue,
-            bound: false,
         };
     };
     Held {
@@ -140,7 +189,6 @@ fn hold(called: Called) -> Held {
         binding,
         reason,
         queue,
-        bound: true,
     }
 }
 
@@ -152,9 +200,9 @@ fn link(binding: Binding, reason: Reason) -> Link {
 }
 
 /// The record after so many sends.
-fn start(gaps: u64, sends: u64) -> Held {
+fn start(gaps: u64, runs: u64, sends: u64) -> Held {
     let most = at_most(sends, 100);
-    let mut called = with_gaps(gaps);
+    let mut called = with_runs(gaps, runs);
     let mut i: u64 = 0;
     while i < most {
         let session = called.session;
@@ -163,6 +211,27 @@ fn start(gaps: u64, sends: u64) -> Held {
         i = i + 1;
     }
     hold(called)
+}
+
+/// How many gaps and runs there are: a thousand for each gap.
+#[no_mangle]
+pub extern "C" fn fixp_bench_lists(gaps: u64, runs: u64) -> u64 {
+    let called = with_runs(gaps, runs);
+    let session = called.session;
+    let lists = session.gaps;
+    let missing = lists.missing;
+    let overflow = lists.overflow_received;
+    thousands(missing.len(), overflow.len())
+}
+
+fn thousands(gaps: usize, runs: usize) -> u64 {
+    if gaps > 65 {
+        return 0;
+    }
+    if runs > 256 {
+        return 0;
+    }
+    1000 * gaps as u64 + runs as u64
 }
 
 fn bare() -> Binding {
@@ -196,56 +265,41 @@ fn send(message: SessionMessage) -> Output {
     }
 }
 
-/// Live numbering, behind so many gaps: the number expected next.
+/// Live numbering, behind so many gaps and runs: the number expected next.
 #[no_mangle]
-pub extern "C" fn fixp_bench_live(turns: u64, gaps: u64) -> u64 {
-    let held = start(gaps, 0);
+pub extern "C" fn fixp_bench_live(turns: u64, gaps: u64, runs: u64) -> u64 {
+    let held = start(gaps, runs, 0);
     let mut session = held.session;
     let mut binding = held.binding;
-    let mut reason = held.reason;
-    let mut queue = held.queue;
+    let reason = held.reason;
+    let queue = held.queue;
     let mut i: u64 = 0;
     while i < turns {
         let now = Instant(i);
         if !fast::is_ready(session, reason, queue) {
             return 0;
         }
-        let number = fast::live(session, binding);
-        if let MaybeSeq::Some(seq) = number {
-            if seq.0 == ALL_ONES {
-                return 0;
-            }
-            let slot = SeqSlot {
-                it: MaybeSeq::Some(SeqNum(seq.0 + 1)),
-            };
-            session.inbound_next = slot;
-            session.start_pending = false;
-            binding.last_received = now;
-        } else {
-            let after = hold(calls::on_application(
-                session,
-                link(binding, reason),
-                queue,
-                now,
-                Nanotime(7),
-            ));
-            session = after.session;
-            binding = after.binding;
-            reason = after.reason;
-            queue = after.queue;
-            if !after.bound {
-                return 0;
-            }
+        let MaybeSeq::Some(seq) = fast::live(session, binding) else {
+            return 0;
+        };
+        if seq.0 == ALL_ONES {
+            return 0;
         }
+        let slot = SeqSlot {
+            it: MaybeSeq::Some(SeqNum(seq.0 + 1)),
+        };
+        session.inbound_next = slot;
+        session.start_pending = false;
+        binding.last_received = now;
         i = i + 1;
     }
     expected(session)
 }
 
-/// Live numbering by the plain call alone, behind so many gaps: the number expected next.
+/// Live numbering by the plain call alone, behind so many gaps and runs: the number expected next.
 #[no_mangle]
-pub extern "C" fn fixp_bench_plain(turns: u64, gaps: u64) -> u64 {
-    let held = start(gaps, 0);
+pub extern "C" fn fixp_bench_plain(turns: u64, gaps: u64, runs: u64) -> u64 {
+    let held = start(gaps, runs, 0);
     let mut session = held.session;
     let first = held.binding;
     let reason = held.reason;
@@ -272,37 +326,22 @@ pub extern "C" fn fixp_bench_trace(trace: &[u8], out: &mut [u8]) -> usize {
 /// A Sequence of the expected number: the number expected next.
 #[no_mangle]
 pub extern "C" fn fixp_bench_same(turns: u64, next: u64) -> u64 {
-    let held = start(0, 0);
+    let held = start(0, 0, 0);
     let mut session = held.session;
     let mut binding = held.binding;
-    let mut reason = held.reason;
-    let mut queue = held.queue;
+    let reason = held.reason;
+    let queue = held.queue;
     let mut i: u64 = 0;
     while i < turns {
         let now = Instant(i);
-        let next_seq_no = SeqNum(next);
-        if fast::is_ready(session, reason, queue) && fast::same(session, binding, next_seq_no) {
-            session.awaiting_resume = false;
-            binding.last_received = now;
-        } else {
-            let message = PeerMessage::Sequence(Sequence { next_seq_no });
-            let after = hold(calls::on_peer(
-                session,
-                link(binding, reason),
-                queue,
-                now,
-                Nanotime(7),
-                message,
-                Reason::none(),
-            ));
-            session = after.session;
-            binding = after.binding;
-            reason = after.reason;
-            queue = after.queue;
-            if !after.bound {
-                return 0;
-            }
+        if !fast::is_ready(session, reason, queue) {
+            return 0;
         }
+        if !fast::same(session, binding, SeqNum(next)) {
+            return 0;
+        }
+        session.awaiting_resume = false;
+        binding.last_received = now;
         i = i + 1;
     }
     expected(session)
@@ -311,32 +350,27 @@ pub extern "C" fn fixp_bench_same(turns: u64, next: u64) -> u64 {
 /// Sends: the number sent next.
 #[no_mangle]
 pub extern "C" fn fixp_bench_send(turns: u64) -> u64 {
-    let held = start(0, 1);
+    let held = start(0, 0, 1);
     let mut session = held.session;
     let mut binding = held.binding;
-    let mut reason = held.reason;
-    let mut queue = held.queue;
+    let reason = held.reason;
+    let queue = held.queue;
     let mut i: u64 = 0;
     while i < turns {
         let now = Instant(i);
-        if fast::is_ready(session, reason, queue) && fast::sent(session, binding) {
-            let seq = session.outbound_next;
-            if seq.0 == ALL_ONES {
-                return 0;
-            }
-            let following = SeqNum(seq.0 + 1);
-            session.outbound_next = following;
-            binding.last_keepalive = now;
-        } else {
-            let after = hold(calls::send_application(session, link(binding, reason), queue, now));
-            session = after.session;
-            binding = after.binding;
-            reason = after.reason;
-            queue = after.queue;
-            if !after.bound {
-                return 0;
-            }
+        if !fast::is_ready(session, reason, queue) {
+            return 0;
         }
+        if !fast::sent(session, binding) {
+            return 0;
+        }
+        let seq = session.outbound_next;
+        if seq.0 == ALL_ONES {
+            return 0;
+        }
+        let following = SeqNum(seq.0 + 1);
+        session.outbound_next = following;
+        binding.last_keepalive = now;
         i = i + 1;
     }
     session.outbound_next.0
@@ -345,29 +379,18 @@ pub extern "C" fn fixp_bench_send(turns: u64) -> u64 {
 /// Timeouts with nothing due: the number expected next.
 #[no_mangle]
 pub extern "C" fn fixp_bench_idle(turns: u64) -> u64 {
-    let held = start(0, 0);
-    let mut session = held.session;
-    let mut binding = held.binding;
-    let mut reason = held.reason;
-    let mut queue = held.queue;
+    let held = start(0, 0, 0);
+    let session = held.session;
+    let binding = held.binding;
+    let reason = held.reason;
+    let queue = held.queue;
     let mut i: u64 = 0;
     while i < turns {
-        let soon = Instant(i % 1000);
-        if !fast::is_ready(session, reason, queue) || !fast::idle(session, binding, soon) {
-            let after = hold(calls::on_timeout(
-                session,
-                link(binding, reason),
-                queue,
-                soon,
-                Nanotime(7),
-            ));
-            session = after.session;
-            binding = after.binding;
-            reason = after.reason;
-            queue = after.queue;
-            if !after.bound {
-                return 0;
-            }
+        if !fast::is_ready(session, reason, queue) {
+            return 0;
+        }
+        if !fast::idle(session, binding, Instant(i % 1000)) {
+            return 0;
         }
         i = i + 1;
     }
@@ -377,10 +400,10 @@ pub extern "C" fn fixp_bench_idle(turns: u64) -> u64 {
 /// A message lost, asked for, replayed, resumed, and the next one: the number expected next.
 #[no_mangle]
 pub extern "C" fn fixp_bench_round(turns: u64) -> u64 {
-    let held = start(0, 0);
+    let held = start(0, 0, 0);
     let mut session = held.session;
     let mut binding = held.binding;
-    let mut reason = held.reason;
+    let reason = held.reason;
     let mut queue = held.queue;
     let mut i: u64 = 0;
     while i < turns {
@@ -468,33 +491,18 @@ pub extern "C" fn fixp_bench_round(turns: u64) -> u64 {
         if !fast::is_ready(session, reason, queue) {
             return 0;
         }
-        let number = fast::live(session, binding);
-        if let MaybeSeq::Some(seq) = number {
-            if seq.0 == ALL_ONES {
-                return 0;
-            }
-            let slot = SeqSlot {
-                it: MaybeSeq::Some(SeqNum(seq.0 + 1)),
-            };
-            session.inbound_next = slot;
-            session.start_pending = false;
-            binding.last_received = now;
-        } else {
-            let after = hold(calls::on_application(
-                session,
-                link(binding, reason),
-                queue,
-                now,
-                Nanotime(7),
-            ));
-            session = after.session;
-            binding = after.binding;
-            reason = after.reason;
-            queue = after.queue;
-            if !after.bound {
-                return 0;
-            }
+        let MaybeSeq::Some(seq) = fast::live(session, binding) else {
+            return 0;
+        };
+        if seq.0 == ALL_ONES {
+            return 0;
         }
+        let following = SeqSlot {
+            it: MaybeSeq::Some(SeqNum(seq.0 + 1)),
+        };
+        session.inbound_next = following;
+        session.start_pending = false;
+        binding.last_received = now;
         i = i + 1;
     }
     expected(session)
@@ -503,67 +511,44 @@ pub extern "C" fn fixp_bench_round(turns: u64) -> u64 {
 /// A request served by one batch: a sum of the stamps answered.
 #[no_mangle]
 pub extern "C" fn fixp_bench_serve(turns: u64) -> u64 {
-    let held = start(0, 20);
+    let held = start(0, 0, 20);
     let mut session = held.session;
     let mut binding = held.binding;
-    let mut reason = held.reason;
+    let reason = held.reason;
     let mut queue = held.queue;
     let mut sum: u64 = 0;
     let mut i: u64 = 0;
     while i < turns {
         let now = Instant(i);
         let request = request_of(session, i % 1000);
-        if fast::is_ready(session, reason, queue) && fast::asked(session, binding, request) {
-            let from = request.from_seq_no;
-            let provider = provider_of(request);
-            session.provider = provider;
-            binding.last_received = now;
-            queue.slots[0] = event(Event::RetransmitRequested { from, count: 2 });
-            queue.head = 0;
-        } else {
-            let message = PeerMessage::RetransmitRequest(request);
-            let after = hold(calls::on_peer(
-                session,
-                link(binding, reason),
-                queue,
-                now,
-                Nanotime(7),
-                message,
-                Reason::none(),
-            ));
-            session = after.session;
-            binding = after.binding;
-            reason = after.reason;
-            queue = after.queue;
-            if !after.bound {
-                return 0;
-            }
-        }
         if !fast::is_ready(session, reason, queue) {
             return 0;
         }
-        let serving = fast::batch(session, binding, 2);
-        if let MaybeProvider::Some(v) = serving {
-            let next = v.from;
-            let stamp = v.request_timestamp;
-            queue.slots[0] = batch_output(session, v, next);
-            let none = ProviderSlot {
-                it: MaybeProvider::None,
-            };
-            session.provider = none;
-            binding.in_sequence = false;
-            binding.last_keepalive = now;
-            sum = std::num::wrapping_add_u64(sum, stamp.0);
-        } else {
-            let after = hold(calls::retransmit(session, link(binding, reason), queue, now, 2));
-            session = after.session;
-            binding = after.binding;
-            reason = after.reason;
-            queue = after.queue;
-            if !after.bound {
-                return 0;
-            }
+        if !fast::asked(session, binding, request) {
+            return 0;
         }
+        let from = request.from_seq_no;
+        let provider = provider_of(request);
+        session.provider = provider;
+        binding.last_received = now;
+        queue.slots[0] = event(Event::RetransmitRequested { from, count: 2 });
+        queue.head = 0;
+        if !fast::is_ready(session, reason, queue) {
+            return 0;
+        }
+        let MaybeProvider::Some(v) = fast::batch(session, binding, 2) else {
+            return 0;
+        };
+        let next = v.from;
+        let stamp = v.request_timestamp;
+        queue.slots[0] = batch_output(session, v, next);
+        let none = ProviderSlot {
+            it: MaybeProvider::None,
+        };
+        session.provider = none;
+        binding.in_sequence = false;
+        binding.last_keepalive = now;
+        sum = std::num::wrapping_add_u64(sum, stamp.0);
         i = i + 1;
     }
     sum

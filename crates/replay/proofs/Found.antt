@@ -13,8 +13,8 @@ use Rattle.session.specs.declared.Session.{Session}
 use Rattle.trace.specs.declared.records.Record.{Record}
 use Rattle.trace.specs.declared.records.Entry.the-variants as entry
 use Rattle.replay.specs.Ordinary.{LiveIf, SameIf, SentIf, QuickIs}
-use Rattle.replay.specs.declared.Quick.{Quick}
-use Rattle.replay.specs.declared.Quick.the-variants as quick
+use Rattle.replay.specs.declared.ordinary.Quick.{Quick}
+use Rattle.replay.specs.declared.ordinary.Quick.the-variants as quick
 
 module _ (r : Record) (s : Session) (l : Link) (q : Outputs) (b : Binding) (bound : l .binding ≡ linked.Some b) (ready : readyRecord s (l .reason) q ≡ true) (fits : reasonFits (r .reason) ≡ true) where
   pub found-live : (x : Quick) → r .entry ≡ entry.Application → LiveIf x (view s) b → QuickIs x r s l q

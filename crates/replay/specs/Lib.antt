@@ -1,2 +1,4 @@
 pub mod Missing
 pub mod Ordinary
+pub mod Run
+pub mod Sample

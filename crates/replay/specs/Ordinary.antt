@@ -3,7 +3,8 @@ use Prim.Native.Nat.{_<_}
 use mathlib.Core.Path.{_≡_}
 use mathlib.Core.Bool.{true}
 use Rattle.types.specs.Base.{allOnes}
-use Rattle.rules.specs.Names.{SeqNum, Binding, Link, PeerMessage, Reason}
+use Rattle.types.specs.States.{withReceived, withKeepalive}
+use Rattle.rules.specs.Names.{SeqNum, Instant, Binding, MaybeBinding, Link, PeerMessage, Reason}
 use Rattle.rules.specs.Names.seq
 use Rattle.rules.specs.Names.peer
 use Rattle.rules.specs.Names.linked
@@ -15,8 +16,8 @@ use Rattle.session.specs.View.{view}
 use Rattle.session.specs.declared.Session.{Session}
 use Rattle.trace.specs.declared.records.Record.{Record}
 use Rattle.trace.specs.declared.records.Entry.the-variants as entry
-use Rattle.replay.specs.declared.Quick.{Quick}
-use Rattle.replay.specs.declared.Quick.the-variants as quick
+use Rattle.replay.specs.declared.ordinary.Quick.{Quick}
+use Rattle.replay.specs.declared.ordinary.Quick.the-variants as quick
 
 -- a live message takes the number n, below the last one
 pub record LiveAs (n : SeqNum) (s : Sess) (b : Binding) : Type 0 where
@@ -72,3 +73,19 @@ QuickIs (quick.Live n) r s l q = (r .entry ≡ entry.Application) × Standing r 
 QuickIs quick.Same r s l q = Standing r s l q (SequenceIn r (view s))
 QuickIs (quick.Sent n) r s l q = (r .entry ≡ entry.Send) × Standing r s l q (SentAs n (view s))
 QuickIs quick.No r s l q = Unit {0}
+
+-- ---- what an ordinary record leaves of the binding
+abbrev pub bindingThen : (Binding → Binding) → MaybeBinding → MaybeBinding
+bindingThen f linked.None = linked.None
+bindingThen f (linked.Some b) = linked.Some (f b)
+
+abbrev pub linkThen : (Binding → Binding) → Link → Link
+linkThen f l = record { binding = bindingThen f (l .binding); reason = l .reason }
+
+-- the peer has just sent something
+abbrev pub linkHeard : Instant → Link → Link
+linkHeard now l = linkThen (withReceived now) l
+
+-- this side has just sent
+abbrev pub linkKeptAlive : Instant → Link → Link
+linkKeptAlive now l = linkThen (withKeepalive now) l

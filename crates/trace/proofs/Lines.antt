@@ -7,35 +7,30 @@ use native.Mathlib.Omega.{arith}
 use borrow.Author.Tests.{lt-ltb, le-ltb}
 use lib.ListN.{length, getD, set, take}
 use lib.Seq.{take-suc, take-suc-set}
-use Rattle.trace.specs.declared.text.Line.{Line}
+use Rattle.rules.specs.Names.{MaybeSeq, SessionStatus, Answer}
+use Rattle.rules.specs.Answers.{told}
 use Rattle.trace.specs.Ascii.{ascii}
-use Rattle.trace.specs.Text.{digits, text, colons, spaced, maxLine, upTo, Adds, LineIs}
+use Rattle.trace.specs.Text.{digits, decimal, colons, answerText, statusText, expectedText, lineText, standingText, countsText, Adds}
 
 -- nothing is added
-pub adds-none : (l : Line) → Adds l [] 0 l
-adds-none l = record { is = sym (append-nil (text l)); room = omega arith }
+pub adds-none : (l : List ℕ) (at : ℕ) → Adds l at [] 0 l at
+adds-none l at = record { is = sym (append-nil (take at l)); room = omega arith }
 
 -- one part after another
-pub adds-then : {a b c : Line} {s t : List ℕ} {m n : ℕ} → Adds a s m b → Adds b t n c → Adds a (s ++ t) (m + n) c
-adds-then {a} {b} {c} {s} {t} {m} {n} p q =
-    record { is = q .is ∙ ap (λ (x : List ℕ). x ++ t) (p .is) ∙ append-assoc (text a) s t; room = omega (arith, p .room, q .room) }
+pub adds-then : {a b c : List ℕ} {i j k : ℕ} {s t : List ℕ} {m n : ℕ} → Adds a i s m b j → Adds b j t n c k → Adds a i (s ++ t) (m + n) c k
+adds-then {a} {b} {c} {i} {j} {k} {s} {t} {m} {n} p q =
+    record { is = q .is ∙ ap (λ (x : List ℕ). x ++ t) (p .is) ∙ append-assoc (take i a) s t; room = omega (arith, p .room, q .room) }
 
 -- a part that leaves some of its room
-pub adds-less : {a b : Line} {t : List ℕ} {m : ℕ} (n : ℕ) → m ≤ n → Adds a t m b → Adds a t n b
+pub adds-less : {a b : List ℕ} {i j : ℕ} {t : List ℕ} {m : ℕ} (n : ℕ) → m ≤ n → Adds a i t m b j → Adds a i t n b j
 adds-less n h p = record { is = p .is; room = omega (arith, p .room) }
 
 -- the same bytes, written another way
-pub adds-as : {a b : Line} {t u : List ℕ} {m : ℕ} → t ≡ u → Adds a t m b → Adds a u m b
-adds-as {a} e p = record { is = p .is ∙ ap (λ (x : List ℕ). text a ++ x) e; room = p .room }
+pub adds-as : {a b : List ℕ} {i j : ℕ} {t u : List ℕ} {m : ℕ} → t ≡ u → Adds a i t m b j → Adds a i u m b j
+adds-as {a} {b} {i} e p = record { is = p .is ∙ ap (λ (x : List ℕ). take i a ++ x) e; room = p .room }
 
--- a line that starts with no bytes
-pub adds-first : {l : List ℕ} {b : Line} {t : List ℕ} {m : ℕ} → m ≤ maxLine → Adds (upTo l 0) t m b → LineIs b t
-unfolding text
-adds-first h p = record { is = p .is; room = omega (arith, p .room) }
-
--- one byte is stored at the line's end
-pub adds-byte : (l : List ℕ) (at x : ℕ) → at < length l → Adds (upTo l at) (x ∷ []) 1 (upTo (set l at x) (at + 1))
-unfolding text
+-- one byte is stored behind the others
+pub adds-byte : (l : List ℕ) (at x : ℕ) → at < length l → Adds l at (x ∷ []) 1 (set l at x) (at + 1)
 adds-byte l at x h = record { is = rw (add-one at) (take-suc-set l at x h); room = omega arith }
 
 -- ---- parts of a line
@@ -43,11 +38,19 @@ adds-byte l at x h = record { is = rw (add-one at) (take-suc-set l at x h); room
 pub colons-two : (w : List ℕ) (a b : ℕ) → (w ++ colons (a ∷ [])) ++ colons (b ∷ []) ≡ w ++ colons (a ∷ b ∷ [])
 colons-two w a b = simp (append-assoc, append-nil)
 
--- six fields, one after another
-pub spaced-six : (a b c d e f : List ℕ)
-    → ((((((((((a ++ ascii " ") ++ b) ++ ascii " ") ++ c) ++ ascii " ") ++ d) ++ ascii " ") ++ e) ++ ascii " ") ++ f) ++ ascii "\n"
-    ≡ spaced a (b ∷ c ∷ d ∷ e ∷ f ∷ [])
-spaced-six a b c d e f = simp append-assoc
+-- a line's fields, one after another
+pub line-parts : (index : ℕ) (x : Answer) (s : SessionStatus) (expected : MaybeSeq) (gaps outputs : ℕ)
+    → ((((decimal index ++ ascii " ") ++ answerText (told x)) ++ ascii " ") ++ standingText s expected) ++ countsText gaps outputs
+    ≡ lineText index x s expected gaps outputs
+unfolding lineText
+line-parts index x s expected gaps outputs = simp append-assoc
+
+-- the two halves of a line behind its answer
+pub standing-parts : (s : SessionStatus) (expected : MaybeSeq) → ((statusText s ++ ascii " ") ++ expectedText expected) ++ ascii " " ≡ standingText s expected
+standing-parts s expected = simp append-assoc
+
+pub counts-parts : (gaps outputs : ℕ) → ((decimal gaps ++ ascii " ") ++ decimal outputs) ++ ascii "\n" ≡ countsText gaps outputs
+counts-parts gaps outputs = simp append-assoc
 
 -- one more element of a list
 pub take-more : (l : List ℕ) (i : ℕ) → i < length l → take (i + 1) l ≡ take i l ++ (getD l i 0 ∷ [])

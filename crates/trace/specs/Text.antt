@@ -10,7 +10,6 @@ use Rattle.rules.specs.Names.seq
 use Rattle.rules.specs.Names.status
 use Rattle.rules.specs.Answers.{Told, ok, accept, replay, discard, sent, batch, refused, told}
 use Rattle.trace.specs.Ascii.{ascii}
-use Rattle.trace.specs.declared.text.Line.{Line}
 
 -- a number in decimal, in at most k digits
 unfoldable pub digits : ℕ → ℕ → List ℕ
@@ -77,20 +76,14 @@ stopText index = ascii "stop " ++ (decimal index ++ ascii "\n")
 abbrev pub maxLine : ℕ
 maxLine = 144
 
--- the bytes that it holds
-unfoldable pub text : Line → List ℕ
-text l = take (l .len) (l .bytes)
+-- the two halves of a line behind its answer
+abbrev pub standingText : SessionStatus → MaybeSeq → List ℕ
+standingText s expected = statusText s ++ (ascii " " ++ (expectedText expected ++ ascii " "))
 
--- the line of the first n of these bytes
-abbrev pub upTo : List ℕ → ℕ → Line
-upTo l n = record { bytes = l; len = n }
+abbrev pub countsText : ℕ → ℕ → List ℕ
+countsText gaps outputs = decimal gaps ++ (ascii " " ++ (decimal outputs ++ ascii "\n"))
 
--- r is l with t after it, which are at most `most` bytes
-pub record Adds (l : Line) (t : List ℕ) (most : ℕ) (r : Line) : Type 0 where
-  pub is : text r ≡ text l ++ t
-  pub room : r .len ≤ l .len + most
-
--- r holds t, and its room holds it
-pub record LineIs (r : Line) (t : List ℕ) : Type 0 where
-  pub is : text r ≡ t
-  pub room : r .len ≤ maxLine
+-- the first `at` bytes of a buffer stand as before, with t behind them up to r: at most `most` bytes
+pub record Adds (before : List ℕ) (at : ℕ) (t : List ℕ) (most : ℕ) (after : List ℕ) (r : ℕ) : Type 0 where
+  pub is : take r after ≡ take at before ++ t
+  pub room : r ≤ at + most

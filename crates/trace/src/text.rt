@@ -6,7 +6,7 @@ ghost use lib.ListN.{length};
 ghost use Rattle.rules.specs.Answers.{refusalNumber, numbers, told};
 ghost use Rattle.trace.specs.Ascii.{ascii};
 ghost use Rattle.trace.specs.Text.{digits, decimal, mostDigits, colons, answerText, statusText, expectedText};
-ghost use Rattle.trace.specs.Text.{lineText, firstText, endText, stopText, maxLine, upTo, Adds, LineIs};
+ghost use Rattle.trace.specs.Text.{lineText, firstText, endText, stopText, maxLine, standingText, countsText, Adds};
 use types::answers::Answer;
 use types::answers::Delivery;
 use types::answers::Refusal;
@@ -15,12 +15,6 @@ use types::ids::MaybeSeq;
 
 /// Room for the longest line: the one place that names it.
 pub const MAX_LINE: usize = 144;
-
-/// A line as it is put together: the first `len` bytes.
-pub struct Line {
-    pub bytes: [u8; MAX_LINE],
-    pub len: usize,
-}
 
 /// A count as a number.
 fn wide(n: u32) -> u64
@@ -52,192 +46,206 @@ pub fn refusal_number(refusal: Refusal) -> u64
 }
 
 /// At most `k` decimal digits of `n`.
-fn push_digits(line: &mut [u8], at: usize, n: u64, k: usize) -> usize
-    requires { ⌜ at + k ≤ length (now line) ⌝ }
-    ensures { λ r. ⌜ Adds (upTo (now (line .entry)) at) (digits k n) k (upTo (now (line .exit)) r) ⌝ }
+fn push_digits(out: &mut [u8], at: usize, n: u64, k: usize) -> usize
+    requires { ⌜ at + k ≤ length (now out) ⌝ }
+    ensures { λ r. ⌜ Adds (now (out .entry)) at (digits k n) k (now (out .exit)) r ⌝ }
 {
     if k == 0 {
         return at;
     }
     if n < 10 {
-        line[at] = 48 + n as u8;
+        out[at] = 48 + n as u8;
         return at + 1;
     }
     let last = (n % 10) as u8;
-    let next = push_digits(line, at, n / 10, k - 1);
-    line[next] = 48 + last;
+    let next = push_digits(out, at, n / 10, k - 1);
+    out[next] = 48 + last;
     next + 1
 }
 
-/// What puts a line together, in place: each part is stored from a place on, and the place after it is told.
-impl Line {
-    /// The bytes of a word.
-    fn word(line: &mut [u8], mut at: usize, word: &[u8]) -> usize
-        requires { ⌜ at + length (now word) ≤ length (now line) ⌝ }
-        ensures { λ r. ⌜ Adds (upTo (now (line .entry)) at) (now (word .entry)) (length (now (word .entry))) (upTo (now (line .exit)) r) ⌝ }
-    {
-        let mut i: usize = 0;
-        while i < word.len() {
-            line[at] = word[i];
-            at = at + 1;
-            i = i + 1;
-        }
-        at
+/// The bytes of a word.
+fn push_word(out: &mut [u8], mut at: usize, word: &[u8]) -> usize
+    requires { ⌜ at + length (now word) ≤ length (now out) ⌝ }
+    ensures { λ r. ⌜ Adds (now (out .entry)) at (now (word .entry)) (length (now (word .entry))) (now (out .exit)) r ⌝ }
+{
+    let mut i: usize = 0;
+    while i < word.len() {
+        out[at] = word[i];
+        at = at + 1;
+        i = i + 1;
     }
+    at
+}
 
-    /// A number in decimal.
-    fn number(line: &mut [u8], at: usize, n: u64) -> usize
-        requires { ⌜ at + mostDigits ≤ length (now line) ⌝ }
-        ensures { λ r. ⌜ Adds (upTo (now (line .entry)) at) (decimal n) mostDigits (upTo (now (line .exit)) r) ⌝ }
-    {
-        push_digits(line, at, n, 20)
+/// A number in decimal.
+fn push_number(out: &mut [u8], at: usize, n: u64) -> usize
+    requires { ⌜ at + mostDigits ≤ length (now out) ⌝ }
+    ensures { λ r. ⌜ Adds (now (out .entry)) at (decimal n) mostDigits (now (out .exit)) r ⌝ }
+{
+    push_digits(out, at, n, 20)
+}
+
+/// A number after a colon.
+fn push_colon(out: &mut [u8], at: usize, n: u64) -> usize
+    requires { ⌜ at + 21 ≤ length (now out) ⌝ }
+    ensures { λ r. ⌜ Adds (now (out .entry)) at (colons (n ∷ [])) 21 (now (out .exit)) r ⌝ }
+{
+    let next = push_word(out, at, b":");
+    push_number(out, next, n)
+}
+
+/// A number after a colon, if there is one.
+fn push_maybe_colon(out: &mut [u8], at: usize, seq: MaybeSeq) -> usize
+    requires { ⌜ at + 21 ≤ length (now out) ⌝ }
+    ensures { λ r. ⌜ Adds (now (out .entry)) at (colons (numbers seq)) 21 (now (out .exit)) r ⌝ }
+{
+    match seq {
+        MaybeSeq::Some(n) => push_colon(out, at, n.0),
+        MaybeSeq::None => at,
     }
+}
 
-    /// A number after a colon.
-    fn colon(line: &mut [u8], at: usize, n: u64) -> usize
-        requires { ⌜ at + 21 ≤ length (now line) ⌝ }
-        ensures { λ r. ⌜ Adds (upTo (now (line .entry)) at) (colons (n ∷ [])) 21 (upTo (now (line .exit)) r) ⌝ }
-    {
-        let next = Line::word(line, at, b":");
-        Line::number(line, next, n)
-    }
-
-    /// A number after a colon, if there is one.
-    fn maybe_colon(line: &mut [u8], at: usize, seq: MaybeSeq) -> usize
-        requires { ⌜ at + 21 ≤ length (now line) ⌝ }
-        ensures { λ r. ⌜ Adds (upTo (now (line .entry)) at) (colons (numbers seq)) 21 (upTo (now (line .exit)) r) ⌝ }
-    {
-        match seq {
-            MaybeSeq::Some(n) => Line::colon(line, at, n.0),
-            MaybeSeq::None => at,
-        }
-    }
-
-    /// `accept`, `replay` or `discard`.
-    fn delivery(line: &mut [u8], at: usize, delivery: Delivery) -> usize
-        requires { ⌜ at + 27 ≤ length (now line) ⌝ }
-        ensures { λ r. ⌜ Adds (upTo (now (line .entry)) at) (answerText (told (Answer.Delivered delivery))) 27 (upTo (now (line .exit)) r) ⌝ }
-    {
-        match delivery {
-            Delivery::Accept { seq, retransmitted } => {
-                if retransmitted {
-                    let next = Line::word(line, at, b"replay");
-                    return Line::maybe_colon(line, next, seq);
-                }
-                let next = Line::word(line, at, b"accept");
-                Line::maybe_colon(line, next, seq)
+/// `accept`, `replay` or `discard`.
+fn push_delivery(out: &mut [u8], at: usize, delivery: Delivery) -> usize
+    requires { ⌜ at + 27 ≤ length (now out) ⌝ }
+    ensures { λ r. ⌜ Adds (now (out .entry)) at (answerText (told (Answer.Delivered delivery))) 27 (now (out .exit)) r ⌝ }
+{
+    match delivery {
+        Delivery::Accept { seq, retransmitted } => {
+            if retransmitted {
+                let next = push_word(out, at, b"replay");
+                return push_maybe_colon(out, next, seq);
             }
-            Delivery::Discard => Line::word(line, at, b"discard"),
+            let next = push_word(out, at, b"accept");
+            push_maybe_colon(out, next, seq)
         }
+        Delivery::Discard => push_word(out, at, b"discard"),
     }
+}
 
-    /// An answer, at most `batch:` with a number of 20 digits and a count.
-    fn answer(line: &mut [u8], at: usize, answer: Answer) -> usize
-        requires { ⌜ at + 47 ≤ length (now line) ⌝ }
-        ensures { λ r. ⌜ Adds (upTo (now (line .entry)) at) (answerText (told answer)) 47 (upTo (now (line .exit)) r) ⌝ }
-    {
-        match answer {
-            Answer::Ok => Line::word(line, at, b"ok"),
-            Answer::Delivered(d) => Line::delivery(line, at, d),
-            Answer::Sent(seq) => {
-                let next = Line::word(line, at, b"sent");
-                Line::maybe_colon(line, next, seq)
-            }
-            Answer::Batch(b) => {
-                let next = Line::word(line, at, b"batch");
-                let from = Line::colon(line, next, b.from.0);
-                Line::colon(line, from, wide(b.count))
-            }
-            Answer::Refused(r) => {
-                let next = Line::word(line, at, b"refused");
-                Line::colon(line, next, refusal_number(r))
-            }
+/// An answer, at most `batch:` with a number of 20 digits and a count.
+fn push_answer(out: &mut [u8], at: usize, answer: Answer) -> usize
+    requires { ⌜ at + 47 ≤ length (now out) ⌝ }
+    ensures { λ r. ⌜ Adds (now (out .entry)) at (answerText (told answer)) 47 (now (out .exit)) r ⌝ }
+{
+    match answer {
+        Answer::Ok => push_word(out, at, b"ok"),
+        Answer::Delivered(d) => push_delivery(out, at, d),
+        Answer::Sent(seq) => {
+            let next = push_word(out, at, b"sent");
+            push_maybe_colon(out, next, seq)
+        }
+        Answer::Batch(b) => {
+            let next = push_word(out, at, b"batch");
+            let from = push_colon(out, next, b.from.0);
+            push_colon(out, from, wide(b.count))
+        }
+        Answer::Refused(r) => {
+            let next = push_word(out, at, b"refused");
+            push_colon(out, next, refusal_number(r))
         }
     }
+}
 
-    /// A status, at most 11 letters.
-    fn status(line: &mut [u8], at: usize, status: SessionStatus) -> usize
-        requires { ⌜ at + 11 ≤ length (now line) ⌝ }
-        ensures { λ r. ⌜ Adds (upTo (now (line .entry)) at) (statusText status) 11 (upTo (now (line .exit)) r) ⌝ }
-    {
-        match status {
-            SessionStatus::Unbound => Line::word(line, at, b"unbound"),
-            SessionStatus::Established => Line::word(line, at, b"established"),
-            SessionStatus::Terminating => Line::word(line, at, b"terminating"),
-            SessionStatus::Closing => Line::word(line, at, b"closing"),
-        }
+/// A status, at most 11 letters.
+fn push_status(out: &mut [u8], at: usize, status: SessionStatus) -> usize
+    requires { ⌜ at + 11 ≤ length (now out) ⌝ }
+    ensures { λ r. ⌜ Adds (now (out .entry)) at (statusText status) 11 (now (out .exit)) r ⌝ }
+{
+    match status {
+        SessionStatus::Unbound => push_word(out, at, b"unbound"),
+        SessionStatus::Established => push_word(out, at, b"established"),
+        SessionStatus::Terminating => push_word(out, at, b"terminating"),
+        SessionStatus::Closing => push_word(out, at, b"closing"),
     }
+}
 
-    /// The expected number or `-`.
-    fn expected(line: &mut [u8], at: usize, expected: MaybeSeq) -> usize
-        requires { ⌜ at + 20 ≤ length (now line) ⌝ }
-        ensures { λ r. ⌜ Adds (upTo (now (line .entry)) at) (expectedText expected) 20 (upTo (now (line .exit)) r) ⌝ }
-    {
-        match expected {
-            MaybeSeq::Some(n) => Line::number(line, at, n.0),
-            MaybeSeq::None => Line::word(line, at, b"-"),
-        }
+/// The expected number or `-`.
+fn push_expected(out: &mut [u8], at: usize, expected: MaybeSeq) -> usize
+    requires { ⌜ at + 20 ≤ length (now out) ⌝ }
+    ensures { λ r. ⌜ Adds (now (out .entry)) at (expectedText expected) 20 (now (out .exit)) r ⌝ }
+{
+    match expected {
+        MaybeSeq::Some(n) => push_number(out, at, n.0),
+        MaybeSeq::None => push_word(out, at, b"-"),
     }
+}
+
+/// Status after and expected number.
+fn push_standing(out: &mut [u8], at: usize, status: SessionStatus, expected: MaybeSeq) -> usize
+    requires { ⌜ at + 33 ≤ length (now out) ⌝ }
+    ensures { λ r. ⌜ Adds (now (out .entry)) at (standingText status expected) 33 (now (out .exit)) r ⌝ }
+{
+    let stands = push_status(out, at, status);
+    let next = push_word(out, stands, b" ");
+    let expects = push_expected(out, next, expected);
+    push_word(out, expects, b" ")
+}
+
+/// Number of gaps, outputs of this record, and the line's end.
+fn push_counts(out: &mut [u8], at: usize, gaps: u64, outputs: u64) -> usize
+    requires { ⌜ at + 42 ≤ length (now out) ⌝ }
+    ensures { λ r. ⌜ Adds (now (out .entry)) at (countsText gaps outputs) 42 (now (out .exit)) r ⌝ }
+{
+    let gapped = push_number(out, at, gaps);
+    let next = push_word(out, gapped, b" ");
+    let counted = push_number(out, next, outputs);
+    push_word(out, counted, b"\n")
 }
 
 /// A line of the trace: index, answer, status after, expected number or `-`, number of gaps, outputs of this record.
 pub fn record_line(
+    out: &mut [u8],
+    at: usize,
     index: u64,
     answer: Answer,
     status: SessionStatus,
     expected: MaybeSeq,
     gaps: u64,
     outputs: u64,
-) -> Line
-    ensures { λ r. ⌜ LineIs r (lineText index answer status expected gaps outputs) ⌝ }
+) -> usize
+    requires { ⌜ at + maxLine ≤ length (now out) ⌝ }
+    ensures { λ r. ⌜ Adds (now (out .entry)) at (lineText index answer status expected gaps outputs) maxLine (now (out .exit)) r ⌝ }
 {
-    let mut bytes: [u8; MAX_LINE] = [0; MAX_LINE];
-    let indexed = Line::number(&mut bytes, 0, index);
-    let mut at = Line::word(&mut bytes, indexed, b" ");
-    let told = Line::answer(&mut bytes, at, answer);
-    at = Line::word(&mut bytes, told, b" ");
-    let stands = Line::status(&mut bytes, at, status);
-    at = Line::word(&mut bytes, stands, b" ");
-    let expects = Line::expected(&mut bytes, at, expected);
-    at = Line::word(&mut bytes, expects, b" ");
-    let gapped = Line::number(&mut bytes, at, gaps);
-    at = Line::word(&mut bytes, gapped, b" ");
-    let counted = Line::number(&mut bytes, at, outputs);
-    let len = Line::word(&mut bytes, counted, b"\n");
-    Line { bytes, len }
+    let indexed = push_number(out, at, index);
+    let next = push_word(out, indexed, b" ");
+    let told = push_answer(out, next, answer);
+    let then = push_word(out, told, b" ");
+    let stands = push_standing(out, then, status, expected);
+    push_counts(out, stands, gaps, outputs)
 }
 
 /// The first line.
-pub fn first_line() -> Line
-    ensures { λ r. ⌜ LineIs r firstText ⌝ }
+pub fn first_line(out: &mut [u8], at: usize) -> usize
+    requires { ⌜ at + maxLine ≤ length (now out) ⌝ }
+    ensures { λ r. ⌜ Adds (now (out .entry)) at firstText maxLine (now (out .exit)) r ⌝ }
 {
-    let mut bytes: [u8; MAX_LINE] = [0; MAX_LINE];
-    let len = Line::word(&mut bytes, 0, b"fixp-trace 1\n");
-    Line { bytes, len }
+    push_word(out, at, b"fixp-trace 1\n")
 }
 
 /// A line that is a word and a number.
-fn numbered(word: &[u8], n: u64) -> Line
+fn push_numbered(out: &mut [u8], at: usize, word: &[u8], n: u64) -> usize
     requires { ⌜ length (now word) + 21 ≤ maxLine ⌝ }
-    ensures { λ r. ⌜ LineIs r (now (word .entry) ++ (decimal n ++ ascii "\n")) ⌝ }
+    requires { ⌜ at + maxLine ≤ length (now out) ⌝ }
+    ensures { λ r. ⌜ Adds (now (out .entry)) at (now (word .entry) ++ (decimal n ++ ascii "\n")) maxLine (now (out .exit)) r ⌝ }
 {
-    let mut bytes: [u8; MAX_LINE] = [0; MAX_LINE];
-    let said = Line::word(&mut bytes, 0, word);
-    let counted = Line::number(&mut bytes, said, n);
-    let len = Line::word(&mut bytes, counted, b"\n");
-    Line { bytes, len }
+    let said = push_word(out, at, word);
+    let counted = push_number(out, said, n);
+    push_word(out, counted, b"\n")
 }
 
 /// The last line.
-pub fn end_line(missing: u64) -> Line
-    ensures { λ r. ⌜ LineIs r (endText missing) ⌝ }
+pub fn end_line(out: &mut [u8], at: usize, missing: u64) -> usize
+    requires { ⌜ at + maxLine ≤ length (now out) ⌝ }
+    ensures { λ r. ⌜ Adds (now (out .entry)) at (endText missing) maxLine (now (out .exit)) r ⌝ }
 {
-    numbered(b"end missing ", missing)
+    push_numbered(out, at, b"end missing ", missing)
 }
 
 /// The line in the place of the last one, where the run stops at a record.
-pub fn stop_line(index: u64) -> Line
-    ensures { λ r. ⌜ LineIs r (stopText index) ⌝ }
+pub fn stop_line(out: &mut [u8], at: usize, index: u64) -> usize
+    requires { ⌜ at + maxLine ≤ length (now out) ⌝ }
+    ensures { λ r. ⌜ Adds (now (out .entry)) at (stopText index) maxLine (now (out .exit)) r ⌝ }
 {
-    numbered(b"stop ", index)
+    push_numbered(out, at, b"stop ", index)
 }

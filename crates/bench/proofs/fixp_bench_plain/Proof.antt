@@ -1,15 +1,15 @@
--- The loop counts up to its bound.
-use borrow.Author.Needs.{needs}
-use native.Mathlib.Omega.{arith}
+-- Each turn goes one further, and no number passes its width.
 use Prim.Native.Nat.{_-_, _≤_}
+use native.Mathlib.Omega.{arith}
+use borrow.Author.Needs.{needs}
 use Rattle.bench.proofs.fixp_bench_plain.Statement.{statement}
 use Rattle.bench.proofs.fixp_bench_plain.Tie as tie
 
 abbrev Inv-loop : tie.InvT-loop
-Inv-loop turns gaps session₀ whole₀ queue₀ i₀ session whole queue i = i ≤ turns
+Inv-loop turns gaps runs session₀ whole₀ queue₀ i₀ session whole queue i = i ≤ turns
 
 abbrev μ-loop : tie.MeasureT-loop
-μ-loop turns gaps session₀ whole₀ queue₀ i₀ session whole queue i = turns - i
+μ-loop turns gaps runs session₀ whole₀ queue₀ i₀ session whole queue i = turns - i
 
 start-requires : tie.Need-start-requires Inv-loop μ-loop
 start-requires c κs = search needs
@@ -27,10 +27,10 @@ add-i : tie.Need-add-i Inv-loop μ-loop
 add-i c = let t = c .before .before .before .before .loop-test .taken in omega (arith, t, c .before .before .before .before .before .before .before .before .before .before .before .before .fits)
 
 loop-less : tie.Need-loop-less Inv-loop μ-loop
-loop-less c = search needs
+loop-less c = let t = c .before .before .before .before .loop-test .taken in omega (arith, t, c .before .before .before .before .before .before .before .before .before .before .before .before .fits)
 
 loop-again : tie.Need-loop-again Inv-loop μ-loop
-loop-again c = search needs
+loop-again c = let t = c .before .before .before .before .loop-test .taken in omega (arith, t, c .before .before .before .before .before .before .before .before .before .before .before .before .fits)
 
 expected-requires : tie.Need-expected-requires Inv-loop μ-loop
 expected-requires c κs = search needs

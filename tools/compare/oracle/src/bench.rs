@@ -18,8 +18,9 @@ use crate::translate;
 use crate::types::{FlowType, Nanotime, SessionId};
 
 unsafe extern "C" {
-    safe fn fixp_bench_live(turns: u64, gaps: u64) -> u64;
-    safe fn fixp_bench_plain(turns: u64, gaps: u64) -> u64;
+    safe fn fixp_bench_lists(gaps: u64, runs: u64) -> u64;
+    safe fn fixp_bench_live(turns: u64, gaps: u64, runs: u64) -> u64;
+    safe fn fixp_bench_plain(turns: u64, gaps: u64, runs: u64) -> u64;
     safe fn fixp_bench_same(turns: u64, next: u64) -> u64;
     safe fn fixp_bench_send(turns: u64) -> u64;
     safe fn fixp_bench_round(turns: u64) -> u64;
@@ -40,6 +41,9 @@ const CONFIG: Config = Config {
     grace: None,
     policy: Policy::EventOnly,
 };
+
+/// How many gaps are asked for, and how many overflow runs: with runs there is one gap more, the held one.
+const LISTS: [(u64, u64); 7] = [(0, 0), (1, 0), (8, 0), (64, 0), (64, 1), (64, 16), (64, 256)];
 
 /// A bound session with the queue that a host empties after each call.
 struct Host {
@@ -122,10 +126,40 @@ impl Host {
         }
         host
     }
+
+    /// So many overflow runs too: a message, a gap over the limit, which unbinds, and a bind, over and over. The first such gap is held by
+    /// itself and makes no run.
+    fn with_runs(gaps: u64, runs: u64) -> Self {
+        let mut host = Self::with_gaps(gaps);
+        let turns = if runs == 0 { 0 } else { runs + 1 };
+        for _ in 0..turns {
+            let now = host.base.at(0);
+            host.application(now);
+            host.sequence(host.expected() + 1, now);
+            host.bind_again();
+        }
+        host
+    }
+
+    fn bind_again(&mut self) {
+        let now = self.base.at(0);
+        let long = Duration::from_nanos(LONG);
+        self.session.release_binding_state();
+        self.binding = self.session.bind(now, long, long);
+        let next = Some(self.expected());
+        let bound = self.session.on_established(&mut self.core, &mut self.binding, next, now);
+        assert!(bound == Bound::Stay);
+        self.empty();
+    }
+
+    /// A thousand for each gap, and one for each run.
+    fn lists(&self) -> u64 {
+        1000 * self.session.gap_count() as u64 + self.session.run_count() as u64
+    }
 }
 
-fn live(turns: u64, gaps: u64) -> u64 {
-    let mut host = Host::with_gaps(gaps);
+fn live(turns: u64, gaps: u64, runs: u64) -> u64 {
+    let mut host = Host::with_runs(gaps, runs);
     let now = host.base.at(1);
     for _ in 0..turns {
         host.application(now);
@@ -353,7 +387,7 @@ fn line(name: &str, turns: u64, rust: impl Fn(u64) -> u64, port: impl Fn(u64) ->
 /// Prints the table.
 pub fn run() {
     println!("| what | Rust ns | port ns | ratio |\n|---|---|---|---|");
-    line("live numbering", 5_000_000, |n| live(n, 0), |n| fixp_bench_live(n, 0));
+    line("live numbering", 5_000_000, |n| live(n, 0, 0), |n| fixp_bench_live(n, 0, 0));
     line("an equal Sequence", 5_000_000, |n| same(n, 1), |n| fixp_bench_same(n, 1));
     line("a send", 5_000_000, send, |n| fixp_bench_send(n));
     line("a message lost and recovered (5 calls)", 1_000_000, round, |n| fixp_bench_round(n));
@@ -366,16 +400,25 @@ pub fn run() {
     for before in [10, 10_000, 1_000_000] {
         line_after(before);
     }
-    for gaps in [0, 1, 8, 64] {
+    for (gaps, runs) in LISTS {
+        let lists = Host::with_runs(gaps, runs).lists();
+        assert_eq!(lists, fixp_bench_lists(gaps, runs), "the two have the same lists");
         line(
-            &format!("with {gaps} gaps"),
+            &format!("with {} gaps and {} runs", lists / 1000, lists % 1000),
             1_000_000,
-            |n| live(n, gaps),
-            |n| fixp_bench_live(n, gaps),
+            |n| live(n, gaps, runs),
+            |n| fixp_bench_live(n, gaps, runs),
         );
     }
-    line("by the plain call, by value", 100_000, |n| live(n, 0), |n| fixp_bench_plain(n, 0));
-    line("by the plain call, with 64 gaps", 100_000, |n| live(n, 64), |n| fixp_bench_plain(n, 64));
+    for (gaps, runs) in [(0, 0), (64, 0), (64, 256)] {
+        let lists = Host::with_runs(gaps, runs).lists();
+        line(
+            &format!("by the plain call, with {} gaps and {} runs", lists / 1000, lists % 1000),
+            100_000,
+            |n| live(n, gaps, runs),
+            |n| fixp_bench_plain(n, gaps, runs),
+        );
+    }
 }
 
 /// The cost of a call behind so many others: a million calls more, and what those before took taken off.
@@ -390,7 +433,7 @@ fn line_after(before: u64) {
         });
         whole - first
     };
-    let (of_rust, of_port) = (cost(&|n| live(n, 0)), cost(&|n| fixp_bench_live(n, 0)));
+    let (of_rust, of_port) = (cost(&|n| live(n, 0, 0)), cost(&|n| fixp_bench_live(n, 0, 0)));
     println!("| after {before} calls | {of_rust:.1} | {of_port:.1} | {:.2} |", of_port / of_rust);
 }
 

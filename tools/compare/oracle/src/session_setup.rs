@@ -57,6 +57,11 @@ impl Session {
         self.missing.len()
     }
 
+    /// How many overflow runs there are.
+    pub(crate) fn run_count(&self) -> usize {
+        self.overflow_received.len()
+    }
+
     /// A session with these fields.
     pub(crate) fn build(state: &SessionState, base: Base) -> Self {
         Self {

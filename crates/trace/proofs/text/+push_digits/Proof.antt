@@ -10,7 +10,6 @@ use Rattle.trace.proofs.text.+push_digits.Lts-push_digits as push-digit
 use Rattle.trace.proofs.text.+push_digits.{statement}
 use Rattle.trace.proofs.text.+push_digits.Tie.{close}
 use lib.ListN.{length-set}
-use Rattle.trace.specs.Text.{upTo}
 use Rattle.trace.proofs.Lines.{adds-none, adds-then, adds-less, adds-byte, digits-none, digits-one, digits-more}
 
 -- the digits that are left fall
@@ -29,25 +28,25 @@ push-digits-returns : (t : ℕ) → push-digits-lts.Need-returns (
   push-digits-below t,
   push-digits.Post,
 ) (push-digits-at t) push-digits.Post
-push-digits-returns t c = rw (c .if1 .taken, digits-none) (adds-none (upTo (c .before .before .args .line .now) (c .before .before .args .at)))
+push-digits-returns t c = rw (c .if1 .taken, digits-none) (adds-none (c .before .before .args .out .now) (c .before .before .args .at))
 
-push-digits-cast-line : (t : ℕ) → push-digits-lts.Need-cast-line (
+push-digits-cast-out : (t : ℕ) → push-digits-lts.Need-cast-out (
   push-digits-below t,
   push-digits.Post,
 ) (push-digits-at t) push-digits.Post
-push-digits-cast-line t c = omega arith
+push-digits-cast-out t c = omega arith
 
-push-digits-add-line : (t : ℕ) → push-digits-lts.Need-add-line (
+push-digits-add-out : (t : ℕ) → push-digits-lts.Need-add-out (
   push-digits-below t,
   push-digits.Post,
 ) (push-digits-at t) push-digits.Post
-push-digits-add-line t c = omega arith
+push-digits-add-out t c = omega arith
 
-push-digits-slice-write-line : (t : ℕ) → push-digits-lts.Need-slice-write-line (
+push-digits-slice-write-out : (t : ℕ) → push-digits-lts.Need-slice-write-out (
   push-digits-below t,
   push-digits.Post,
 ) (push-digits-at t) push-digits.Post
-push-digits-slice-write-line t c = omega arith
+push-digits-slice-write-out t c = omega arith
 
 push-digits-add-result : (t : ℕ) → push-digits-lts.Need-add-result (
   push-digits-below t,
@@ -59,7 +58,7 @@ push-digits-same-length : (t : ℕ) → push-digits-lts.Need-same-length (
   push-digits-below t,
   push-digits.Post,
 ) (push-digits-at t) push-digits.Post
-push-digits-same-length t c = length-set (c .before .before .before .args .line .now) (c .before .before .before .args .at) (48 + c .before .before .before .args .n)
+push-digits-same-length t c = length-set (c .before .before .before .args .out .now) (c .before .before .before .args .at) (48 + c .before .before .before .args .n)
 
 push-digits-returns-2 : (t : ℕ) → push-digits-lts.Need-returns-2 (
   push-digits-below t,
@@ -67,7 +66,7 @@ push-digits-returns-2 : (t : ℕ) → push-digits-lts.Need-returns-2 (
 ) (push-digits-at t) push-digits.Post
 push-digits-returns-2 t c =
     let a = c .before .before .before .args in
-    rw (digits-one (a .k) (a .n) (c .before .if1 .left) (c .if2 .taken)) (adds-less (a .k) (omega arith) (adds-byte (a .line .now) (a .at) (48 + a .n) (omega arith)))
+    rw (digits-one (a .k) (a .n) (c .before .if1 .left) (c .if2 .taken)) (adds-less (a .k) (omega arith) (adds-byte (a .out .now) (a .at) (48 + a .n) (omega arith)))
 
 push-digits-cast-last : (t : ℕ) → push-digits-lts.Need-cast-last (
   push-digits-below t,
@@ -87,17 +86,17 @@ push-digits-push-digits-requires : (t : ℕ) → push-digits-lts.Need-push-digit
 ) (push-digits-at t) push-digits.Post
 push-digits-push-digits-requires t c κs = (omega (arith, c .before .before .before .before .pre), omega (arith, c .before .before .before .before .pre))
 
-push-digits-add-line-2 : (t : ℕ) → push-digits-lts.Need-add-line-2 (
+push-digits-add-out-2 : (t : ℕ) → push-digits-lts.Need-add-out-2 (
   push-digits-below t,
   push-digits.Post,
 ) (push-digits-at t) push-digits.Post
-push-digits-add-line-2 t c = omega arith
+push-digits-add-out-2 t c = omega arith
 
-push-digits-slice-write-line-2 : (t : ℕ) → push-digits-lts.Need-slice-write-line-2 (
+push-digits-slice-write-out-2 : (t : ℕ) → push-digits-lts.Need-slice-write-out-2 (
   push-digits-below t,
   push-digits.Post,
 ) (push-digits-at t) push-digits.Post
-push-digits-slice-write-line-2 t c = omega (arith, c .before .before .before .before .before .before .before .pre, c .before .before .push-digits .kept .0, c .before .before .push-digits .ensures .room)
+push-digits-slice-write-out-2 t c = omega (arith, c .before .before .before .before .before .before .before .pre, c .before .before .push-digits .kept .0, c .before .before .push-digits .ensures .room)
 
 push-digits-add-result-2 : (t : ℕ) → push-digits-lts.Need-add-result-2 (
   push-digits-below t,
@@ -130,17 +129,17 @@ pub +push-digits-spec : {M : Type 1} → statement M
     (push-digits-at t)
     push-digits.Post
     (push-digits-returns t)
-    (push-digits-cast-line t)
-    (push-digits-add-line t)
-    (push-digits-slice-write-line t)
+    (push-digits-cast-out t)
+    (push-digits-add-out t)
+    (push-digits-slice-write-out t)
     (push-digits-add-result t)
     (push-digits-same-length t)
     (push-digits-returns-2 t)
     (push-digits-cast-last t)
     (push-digits-sub-push-digits t)
     (push-digits-push-digits-requires t)
-    (push-digits-add-line-2 t)
-    (push-digits-slice-write-line-2 t)
+    (push-digits-add-out-2 t)
+    (push-digits-slice-write-out-2 t)
     (push-digits-add-result-2 t)
     (push-digits-same-length-2 t)
     (push-digits-returns-3 t)
