@@ -96,22 +96,7 @@ fn with_gaps(gaps: u64) -> Called {
     let mut called = bound();
     let mut i: u64 = 0;
     while i < most {
-        let session = called.session;
-        let link = called.link;
-        let heard = calls::on_application(session, link, Outputs::new(), Instant(0), Nanotime(7));
-        let next = heard.session;
-        let still = heard.link;
-        called = calls::on_peer(
-            next,
-            still,
-            Outputs::new(),
-            Instant(0),
-            Nanotime(7),
-            PeerMessage::Sequence(Sequence {
-                next_seq_no: SeqNum(2 * i + 3),
-            }),
-            Reason::none(),
-        );
+        called = lost_again(called);
         i = i + 1;
     }
     called
