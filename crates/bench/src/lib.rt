@@ -1,5 +1,5 @@
 //! What calls cost, for tools/bench: loops over a record that is held in place. A call is made by its ordinary form, which stores the few
-//! fields that change; a loop whose call is not an ordinary one ends with 0, which tools/bench takes for a failure.
+//! fields that change, and where it is not an ordinary one by `calls`: with that way out the compiler can't make one turn of all of them.
 ghost use Prim.Native.Nat.{_≤_};
 use calls::Called;
 use queue::Outputs;
@@ -38,12 +38,13 @@ use types::parts::ReplaySlot;
 use types::parts::SeqSlot;
 use types::reasons::Reason;
 
-/// A record, its link taken apart. One that is not bound has a binding that no time has passed on.
+/// A record, its link taken apart; `bound` says that it is bound.
 pub struct Held {
     pub session: Session,
     pub binding: Binding,
     pub reason: Reason,
     pub queue: Outputs,
+    pub bound: bool,
 }
 
 /// Every duration: no timer comes due.
@@ -167,6 +168,7 @@ fn hold(called: Called) -> Held {
             binding: bare(),
             reason,
             queue,
+            bound: false,
         };
     };
     Held {
@@ -174,6 +176,7 @@ fn hold(called: Called) -> Held {
         binding,
         reason,
         queue,
+        bound: true,
     }
 }
 
@@ -256,26 +259,41 @@ pub extern "C" fn fixp_bench_live(turns: u64, gaps: u64, runs: u64) -> u64 {
     let held = start(gaps, runs, 0);
     let mut session = held.session;
     let mut binding = held.binding;
-    let reason = held.reason;
-    let queue = held.queue;
+    let mut reason = held.reason;
+    let mut queue = held.queue;
     let mut i: u64 = 0;
     while i < turns {
         let now = Instant(i);
         if !fast::is_ready(session, reason, queue) {
             return 0;
         }
-        let MaybeSeq::Some(seq) = fast::live(session, binding) else {
-            return 0;
-        };
-        if seq.0 == ALL_ONES {
-            return 0;
+        let number = fast::live(session, binding);
+        if let MaybeSeq::Some(seq) = number {
+            if seq.0 == ALL_ONES {
+                return 0;
+            }
+            let slot = SeqSlot {
+                it: MaybeSeq::Some(SeqNum(seq.0 + 1)),
+            };
+            session.inbound_next = slot;
+            session.start_pending = false;
+            binding.last_received = now;
+        } else {
+            let after = hold(calls::on_application(
+                session,
+                link(binding, reason),
+                queue,
+                now,
+                Nanotime(7),
+            ));
+            session = after.session;
+            binding = after.binding;
+            reason = after.reason;
+            queue = after.queue;
+            if !after.bound {
+                return 0;
+            }
         }
-        let slot = SeqSlot {
-            it: MaybeSeq::Some(SeqNum(seq.0 + 1)),
-        };
-        session.inbound_next = slot;
-        session.start_pending = false;
-        binding.last_received = now;
         i = i + 1;
     }
     expected(session)
@@ -314,19 +332,34 @@ pub extern "C" fn fixp_bench_same(turns: u64, next: u64) -> u64 {
     let held = start(0, 0, 0);
     let mut session = held.session;
     let mut binding = held.binding;
-    let reason = held.reason;
-    let queue = held.queue;
+    let mut reason = held.reason;
+    let mut queue = held.queue;
     let mut i: u64 = 0;
     while i < turns {
         let now = Instant(i);
-        if !fast::is_ready(session, reason, queue) {
-            return 0;
+        let next_seq_no = SeqNum(next);
+        if fast::is_ready(session, reason, queue) && fast::same(session, binding, next_seq_no) {
+            session.awaiting_resume = false;
+            binding.last_received = now;
+        } else {
+            let message = PeerMessage::Sequence(Sequence { next_seq_no });
+            let after = hold(calls::on_peer(
+                session,
+                link(binding, reason),
+                queue,
+                now,
+                Nanotime(7),
+                message,
+                Reason::none(),
+            ));
+            session = after.session;
+            binding = after.binding;
+            reason = after.reason;
+            queue = after.queue;
+            if !after.bound {
+                return 0;
+            }
         }
-        if !fast::same(session, binding, SeqNum(next)) {
-            return 0;
-        }
-        session.awaiting_resume = false;
-        binding.last_received = now;
         i = i + 1;
     }
     expected(session)
@@ -338,24 +371,29 @@ pub extern "C" fn fixp_bench_send(turns: u64) -> u64 {
     let held = start(0, 0, 1);
     let mut session = held.session;
     let mut binding = held.binding;
-    let reason = held.reason;
-    let queue = held.queue;
+    let mut reason = held.reason;
+    let mut queue = held.queue;
     let mut i: u64 = 0;
     while i < turns {
         let now = Instant(i);
-        if !fast::is_ready(session, reason, queue) {
-            return 0;
+        if fast::is_ready(session, reason, queue) && fast::sent(session, binding) {
+            let seq = session.outbound_next;
+            if seq.0 == ALL_ONES {
+                return 0;
+            }
+            let following = SeqNum(seq.0 + 1);
+            session.outbound_next = following;
+            binding.last_keepalive = now;
+        } else {
+            let after = hold(calls::send_application(session, link(binding, reason), queue, now));
+            session = after.session;
+            binding = after.binding;
+            reason = after.reason;
+            queue = after.queue;
+            if !after.bound {
+                return 0;
+            }
         }
-        if !fast::sent(session, binding) {
-            return 0;
-        }
-        let seq = session.outbound_next;
-        if seq.0 == ALL_ONES {
-            return 0;
-        }
-        let following = SeqNum(seq.0 + 1);
-        session.outbound_next = following;
-        binding.last_keepalive = now;
         i = i + 1;
     }
     session.outbound_next.0
@@ -365,17 +403,28 @@ pub extern "C" fn fixp_bench_send(turns: u64) -> u64 {
 #[no_mangle]
 pub extern "C" fn fixp_bench_idle(turns: u64) -> u64 {
     let held = start(0, 0, 0);
-    let session = held.session;
-    let binding = held.binding;
-    let reason = held.reason;
-    let queue = held.queue;
+    let mut session = held.session;
+    let mut binding = held.binding;
+    let mut reason = held.reason;
+    let mut queue = held.queue;
     let mut i: u64 = 0;
     while i < turns {
-        if !fast::is_ready(session, reason, queue) {
-            return 0;
-        }
-        if !fast::idle(session, binding, Instant(i % 1000)) {
-            return 0;
+        let soon = Instant(i % 1000);
+        if !fast::is_ready(session, reason, queue) || !fast::idle(session, binding, soon) {
+            let after = hold(calls::on_timeout(
+                session,
+                link(binding, reason),
+                queue,
+                soon,
+                Nanotime(7),
+            ));
+            session = after.session;
+            binding = after.binding;
+            reason = after.reason;
+            queue = after.queue;
+            if !after.bound {
+                return 0;
+            }
         }
         i = i + 1;
     }
@@ -388,7 +437,7 @@ pub extern "C" fn fixp_bench_round(turns: u64) -> u64 {
     let held = start(0, 0, 0);
     let mut session = held.session;
     let mut binding = held.binding;
-    let reason = held.reason;
+    let mut reason = held.reason;
     let mut queue = held.queue;
     let mut i: u64 = 0;
     while i < turns {
@@ -476,18 +525,33 @@ pub extern "C" fn fixp_bench_round(turns: u64) -> u64 {
         if !fast::is_ready(session, reason, queue) {
             return 0;
         }
-        let MaybeSeq::Some(seq) = fast::live(session, binding) else {
-            return 0;
-        };
-        if seq.0 == ALL_ONES {
-            return 0;
+        let number = fast::live(session, binding);
+        if let MaybeSeq::Some(seq) = number {
+            if seq.0 == ALL_ONES {
+                return 0;
+            }
+            let slot = SeqSlot {
+                it: MaybeSeq::Some(SeqNum(seq.0 + 1)),
+            };
+            session.inbound_next = slot;
+            session.start_pending = false;
+            binding.last_received = now;
+        } else {
+            let after = hold(calls::on_application(
+                session,
+                link(binding, reason),
+                queue,
+                now,
+                Nanotime(7),
+            ));
+            session = after.session;
+            binding = after.binding;
+            reason = after.reason;
+            queue = after.queue;
+            if !after.bound {
+                return 0;
+            }
         }
-        let following = SeqSlot {
-            it: MaybeSeq::Some(SeqNum(seq.0 + 1)),
-        };
-        session.inbound_next = following;
-        session.start_pending = false;
-        binding.last_received = now;
         i = i + 1;
     }
     expected(session)
@@ -499,41 +563,64 @@ pub extern "C" fn fixp_bench_serve(turns: u64) -> u64 {
     let held = start(0, 0, 20);
     let mut session = held.session;
     let mut binding = held.binding;
-    let reason = held.reason;
+    let mut reason = held.reason;
     let mut queue = held.queue;
     let mut sum: u64 = 0;
     let mut i: u64 = 0;
     while i < turns {
         let now = Instant(i);
         let request = request_of(session, i % 1000);
+        if fast::is_ready(session, reason, queue) && fast::asked(session, binding, request) {
+            let from = request.from_seq_no;
+            let provider = provider_of(request);
+            session.provider = provider;
+            binding.last_received = now;
+            queue.slots[0] = event(Event::RetransmitRequested { from, count: 2 });
+            queue.head = 0;
+        } else {
+            let message = PeerMessage::RetransmitRequest(request);
+            let after = hold(calls::on_peer(
+                session,
+                link(binding, reason),
+                queue,
+                now,
+                Nanotime(7),
+                message,
+                Reason::none(),
+            ));
+            session = after.session;
+            binding = after.binding;
+            reason = after.reason;
+            queue = after.queue;
+            if !after.bound {
+                return 0;
+            }
+        }
         if !fast::is_ready(session, reason, queue) {
             return 0;
         }
-        if !fast::asked(session, binding, request) {
-            return 0;
+        let serving = fast::batch(session, binding, 2);
+        if let MaybeProvider::Some(v) = serving {
+            let next = v.from;
+            let stamp = v.request_timestamp;
+            queue.slots[0] = batch_output(session, v, next);
+            let none = ProviderSlot {
+                it: MaybeProvider::None,
+            };
+            session.provider = none;
+            binding.in_sequence = false;
+            binding.last_keepalive = now;
+            sum = std::num::wrapping_add_u64(sum, stamp.0);
+        } else {
+            let after = hold(calls::retransmit(session, link(binding, reason), queue, now, 2));
+            session = after.session;
+            binding = after.binding;
+            reason = after.reason;
+            queue = after.queue;
+            if !after.bound {
+                return 0;
+            }
         }
-        let from = request.from_seq_no;
-        let provider = provider_of(request);
-        session.provider = provider;
-        binding.last_received = now;
-        queue.slots[0] = event(Event::RetransmitRequested { from, count: 2 });
-        queue.head = 0;
-        if !fast::is_ready(session, reason, queue) {
-            return 0;
-        }
-        let MaybeProvider::Some(v) = fast::batch(session, binding, 2) else {
-            return 0;
-        };
-        let next = v.from;
-        let stamp = v.request_timestamp;
-        queue.slots[0] = batch_output(session, v, next);
-        let none = ProviderSlot {
-            it: MaybeProvider::None,
-        };
-        session.provider = none;
-        binding.in_sequence = false;
-        binding.last_keepalive = now;
-        sum = std::num::wrapping_add_u64(sum, stamp.0);
         i = i + 1;
     }
     sum

@@ -4,3 +4,5 @@ pub mod Answers
 pub mod Records
 pub mod Rounds
 pub mod Outputs
+pub mod Requests
+pub mod Exported

@@ -1,9 +1,12 @@
 -- The output that a plain one stands for, and the plain form of each: the kind of the trace record for what is sent, 1 CloseTransport, events 101 to 113.
 use Prim.Native.Nat.{ℕ}
-use mathlib.Core.List.{map}
+use mathlib.Core.Bool.{Bool, true, false, _&&_}
+use mathlib.Core.List.{List, [], _∷_, map}
+use lib.Dec.{eqb}
+use Rattle.types.specs.Base.{if_then_else_}
 use Rattle.types.specs.Flows.{terminationNumber, rejectionNumber}
 use Rattle.types.specs.Reasons.{noText}
-use Rattle.rules.specs.Names.{SessionMessage, Event, Said, Output, SeqNum}
+use Rattle.rules.specs.Names.{SessionMessage, Event, Said, Output, SeqNum, Nanotime}
 use Rattle.rules.specs.Names.message
 use Rattle.rules.specs.Names.event
 use Rattle.rules.specs.Names.said
@@ -12,8 +15,8 @@ use Rattle.library.specs.declared.mirror.Id.{Id}
 use Rattle.library.specs.declared.mirror.Number.{Number}
 use Rattle.library.specs.declared.mirror.Out.{Out}
 use Rattle.library.specs.declared.mirror.Queue.{Queue}
-use Rattle.library.specs.Numbers.{byNumber, nameNumber}
-use Rattle.library.specs.Parts.{noNumber, seqOut, idOut, textOut}
+use Rattle.library.specs.Numbers.{isListed, terminationIn, rejectionIn, byIn, byNumber, nameIn, nameNumber, isNameNumber}
+use Rattle.library.specs.Parts.{noNumber, seqIn, seqOut, idIn, idOut, textIn, textOut}
 
 -- ---- to plain numbers
 -- kind, code, by, count, id, stamp, number, length, seq
@@ -96,3 +99,73 @@ outputOut x = outputFrom (saidOut (x .said)) x
 
 abbrev pub queueOut : Outputs → Queue
 queueOut q = record { slots = map outputOut (q .slots); head = q .head; count = q .count; closing = q .closing }
+
+-- ---- from plain numbers
+abbrev pub numberIn : Out → SeqNum
+numberIn o = record { 0 = o .number }
+
+abbrev pub stampIn : Out → Nanotime
+stampIn o = record { 0 = o .stamp }
+
+-- a kind of no output reads as CloseTransport: `isSaid` turns it away before
+unfoldable pub saidIn : Out → Said
+saidIn o =
+    if eqb (o .kind) 32 then said.Send (message.Sequence (record { «next_seq_no» = numberIn o }))
+    else if eqb (o .kind) 34 then said.Send message.UnsequencedHeartbeat
+    else if eqb (o .kind) 35 then said.Send (message.RetransmitRequest (record { «session_id» = idIn (o .id); timestamp = stampIn o; «from_seq_no» = numberIn o; count = o .count }))
+    else if eqb (o .kind) 36 then said.Send (message.Retransmission (record { «session_id» = idIn (o .id); «request_timestamp» = stampIn o; «next_seq_no» = numberIn o; count = o .count }))
+    else if eqb (o .kind) 37 then said.Send (message.RetransmitReject (record { «session_id» = idIn (o .id); «request_timestamp» = stampIn o; code = rejectionIn (o .code) }))
+    else if eqb (o .kind) 38 then said.Send (message.Terminate (record { «session_id» = idIn (o .id); code = terminationIn (o .code) }))
+    else if eqb (o .kind) 40 then said.Send (message.FinishedReceiving (record { «session_id» = idIn (o .id) }))
+    else if eqb (o .kind) 42 then said.SendApplication (seqIn (o .seq)) (record { «from_seq_no» = numberIn o; count = o .count })
+    else if eqb (o .kind) 101 then said.Event (event.Refused (nameIn (o .code)))
+    else if eqb (o .kind) 102 then said.Event (event.SequenceGap (numberIn o) (o .length))
+    else if eqb (o .kind) 103 then said.Event event.RecoveryComplete
+    else if eqb (o .kind) 104 then said.Event (event.RetransmitRequested (numberIn o) (o .count))
+    else if eqb (o .kind) 105 then said.Event (event.RetransmitRejected (numberIn o) (o .count) (rejectionIn (o .code)))
+    else if eqb (o .kind) 106 then said.Event (event.RetransmitTimedOut (numberIn o) (o .count))
+    else if eqb (o .kind) 107 then said.Event (event.NotApplied (numberIn o) (o .count))
+    else if eqb (o .kind) 108 then said.Event (event.Applied (numberIn o) (o .count))
+    else if eqb (o .kind) 109 then said.Event (event.Terminated (terminationIn (o .code)) (byIn (o .by)))
+    else if eqb (o .kind) 110 then said.Event event.KeepaliveLapsed
+    else if eqb (o .kind) 111 then said.Event event.ProtocolViolation
+    else if eqb (o .kind) 112 then said.Event (event.PeerFinishedSending (seqIn (o .seq)))
+    else if eqb (o .kind) 113 then said.Event (event.Ignored (nameIn (o .code)))
+    else said.CloseTransport
+
+-- whether kind and code are of their lists
+unfoldable pub isSaid : Out → Bool
+isSaid o =
+    if eqb (o .kind) 1 then true
+    else if eqb (o .kind) 32 then true
+    else if eqb (o .kind) 34 then true
+    else if eqb (o .kind) 35 then true
+    else if eqb (o .kind) 36 then true
+    else if eqb (o .kind) 37 then isListed (o .code) 3
+    else if eqb (o .kind) 38 then isListed (o .code) 4
+    else if eqb (o .kind) 40 then true
+    else if eqb (o .kind) 42 then true
+    else if eqb (o .kind) 101 then isNameNumber (o .code)
+    else if eqb (o .kind) 102 then true
+    else if eqb (o .kind) 103 then true
+    else if eqb (o .kind) 104 then true
+    else if eqb (o .kind) 105 then isListed (o .code) 3
+    else if eqb (o .kind) 106 then true
+    else if eqb (o .kind) 107 then true
+    else if eqb (o .kind) 108 then true
+    else if eqb (o .kind) 109 then isListed (o .by) 2 && isListed (o .code) 4
+    else if eqb (o .kind) 110 then true
+    else if eqb (o .kind) 111 then true
+    else if eqb (o .kind) 112 then true
+    else if eqb (o .kind) 113 then isNameNumber (o .code)
+    else false
+
+abbrev pub allSaid : List Out → Bool
+allSaid [] = true
+allSaid (o ∷ l) = isSaid o && allSaid l
+
+abbrev pub outputIn : Out → Output
+outputIn o = record { said = saidIn o; reason = o .reason; text = textIn (o .text) }
+
+abbrev pub queueIn : Queue → Outputs
+queueIn q = record { slots = map outputIn (q .slots); head = q .head; count = q .count; closing = q .closing }

@@ -1,6 +1,9 @@
 //! The calls for C and Rust: records as plain numbers, by value in and out.
 ghost use mathlib.Core.Path.{_≡_};
-ghost use Rattle.calls.specs.View.{Answered};
+ghost use Rattle.types.specs.Base.{if_then_else_};
+ghost use Rattle.rules.specs.Names.refusal;
+ghost use Rattle.calls.specs.View.{Answered, goodRecord};
+ghost use Rattle.library.specs.Exported.{isBond, isClean, isOpening, refusedOut, CallIs, OpenOut, deadlineReply, ClosedIs};
 ghost use Rattle.library.specs.Records.{sessionIn, linkIn, recordOut, doneOut, callOf, isMalformed};
 use crate::answers::answer_out;
 use crate::answers::numbered;
@@ -174,7 +177,9 @@ fn done_of(called: Called) -> Done
     }
 }
 
-fn refused(record: Record, refusal: Refusal) -> Done {
+fn refused(record: Record, refusal: Refusal) -> Done
+    ensures { λ r. ⌜ r ≡ refusedOut «record» refusal ⌝ }
+{
     Done {
         record,
         reply: refusal_out(refusal),
@@ -182,7 +187,9 @@ fn refused(record: Record, refusal: Refusal) -> Done {
 }
 
 /// Whether phase and code of a binding are of their lists.
-fn is_bond(b: Bond) -> bool {
+fn is_bond(b: Bond) -> bool
+    ensures { λ r. ⌜ r ≡ isBond b ⌝ }
+{
     if !listed(b.phase, 3) {
         return false;
     }
@@ -190,7 +197,9 @@ fn is_bond(b: Bond) -> bool {
 }
 
 /// Whether every number that stands for an enum is of its list.
-fn is_clean(r: Record) -> bool {
+fn is_clean(r: Record) -> bool
+    ensures { λ x. ⌜ x ≡ isClean r ⌝ }
+{
     if !listed(r.local_flow, 4) {
         return false;
     }
@@ -249,7 +258,9 @@ fn is_malformed(entry: Entry) -> bool
 }
 
 /// A request that is no call: 5, on a good record.
-fn malformed(record: Record, good: bool) -> Done {
+fn malformed(record: Record, good: bool) -> Done
+    ensures { λ r. ⌜ r ≡ refusedOut «record» (if good then refusal.BadMessage else refusal.BadRecord) ⌝ }
+{
     if good {
         return refused(record, Refusal::BadMessage);
     }
@@ -258,7 +269,9 @@ fn malformed(record: Record, good: bool) -> Done {
 
 /// A call on a record. A number outside its list is refused: 1 in a record, then 5 in a request.
 #[no_mangle]
-pub extern "C" fn fixp_call(record: Record, request: Request) -> Done {
+pub extern "C" fn fixp_call(record: Record, request: Request) -> Done
+    ensures { λ r. ⌜ CallIs «record» request r ⌝ }
+{
     if !is_clean(record) {
         return refused(record, Refusal::BadRecord);
     }
@@ -275,7 +288,9 @@ pub extern "C" fn fixp_call(record: Record, request: Request) -> Done {
 
 /// A new session. Flows and policy outside their lists are refused by 2, as a configuration out of range is.
 #[no_mangle]
-pub extern "C" fn fixp_open(opening: Opening) -> Done {
+pub extern "C" fn fixp_open(opening: Opening) -> Done
+    ensures { λ r. ⌜ OpenOut opening r ⌝ }
+{
     let id = opening.id;
     let config = opening.config;
     let local = flow_in(opening.local_flow);
@@ -290,7 +305,9 @@ pub extern "C" fn fixp_open(opening: Opening) -> Done {
 }
 
 /// Whether every number of an opening is of its list.
-fn is_open(o: Opening) -> bool {
+fn is_open(o: Opening) -> bool
+    ensures { λ r. ⌜ r ≡ isOpening o ⌝ }
+{
     if !listed(o.local_flow, 4) {
         return false;
     }
@@ -302,7 +319,9 @@ fn is_open(o: Opening) -> bool {
 }
 
 /// 1: a release is refused exactly where the record is bad.
-fn is_good(session: Session, link: Link, queue: Outputs) -> bool {
+fn is_good(session: Session, link: Link, queue: Outputs) -> bool
+    ensures { λ r. ⌜ r ≡ goodRecord session link queue ⌝ }
+{
     let released = calls::release(session, link, queue);
     let answer = released.answer;
     match answer {
@@ -316,7 +335,9 @@ fn is_good(session: Session, link: Link, queue: Outputs) -> bool {
 
 /// The next instant with work for a timeout, as the number of an ok: 1. Unbound there is none.
 #[no_mangle]
-pub extern "C" fn fixp_next_deadline(record: Record) -> Reply {
+pub extern "C" fn fixp_next_deadline(record: Record) -> Reply
+    ensures { λ r. ⌜ r ≡ deadlineReply «record» ⌝ }
+{
     if !is_clean(record) {
         return refusal_out(Refusal::BadRecord);
     }
@@ -336,7 +357,9 @@ pub extern "C" fn fixp_next_deadline(record: Record) -> Reply {
 
 /// The host reports the transport closed: 1.
 #[no_mangle]
-pub extern "C" fn fixp_transport_closed(record: Record) -> Done {
+pub extern "C" fn fixp_transport_closed(record: Record) -> Done
+    ensures { λ r. ⌜ ClosedIs «record» r ⌝ }
+{
     if !is_clean(record) {
         return refused(record, Refusal::BadRecord);
     }
@@ -345,9 +368,6 @@ pub extern "C" fn fixp_transport_closed(record: Record) -> Done {
     let queue = record.queue;
     let outputs = queue_in(queue);
     if !is_good(session, link, outputs) {
-        return refused(record, Refusal::BadRecord);
-    }
-    if !outputs.sound() {
         return refused(record, Refusal::BadRecord);
     }
     let closed = outputs.transport_closed();

@@ -1,6 +1,6 @@
 //! The outputs. Kinds: a message sent has the kind of its trace record (01), 1 is CloseTransport, and events are 101 to 113 in the order of `Event`.
 ghost use mathlib.Core.Path.{_≡_};
-ghost use Rattle.library.specs.Outputs.{bareOut, codedOut, countedOut, messageOut, eventOut, saidOut, outputOut, queueOut};
+ghost use Rattle.library.specs.Outputs.{bareOut, codedOut, countedOut, messageOut, eventOut, saidOut, outputOut, queueOut, saidIn, isSaid, allSaid, outputIn, queueIn};
 use crate::codes::by_in;
 use crate::codes::by_out;
 use crate::codes::is_name;
@@ -41,7 +41,9 @@ use types::output::Said;
 use types::reasons::Reason;
 
 /// What is sent, by the kinds 32 to 42, or reported, by the kinds from 101; else CloseTransport.
-fn said_in(o: Out) -> Said {
+fn said_in(o: Out) -> Said
+    ensures { λ r. ⌜ r ≡ saidIn o ⌝ }
+{
     let id = o.id;
     let seq = o.seq;
     let kind = o.kind;
@@ -123,7 +125,9 @@ fn said_in(o: Out) -> Said {
 }
 
 /// Whether kind and code of an output are of their lists.
-fn is_said(o: Out) -> bool {
+fn is_said(o: Out) -> bool
+    ensures { λ r. ⌜ r ≡ isSaid o ⌝ }
+{
     let kind = o.kind;
     match kind {
         1 => true,
@@ -295,7 +299,9 @@ fn said_out(said: Said) -> Out
     }
 }
 
-fn output_in(o: Out) -> Output {
+fn output_in(o: Out) -> Output
+    ensures { λ r. ⌜ r ≡ outputIn o ⌝ }
+{
     let text = o.text;
     let said = said_in(o);
     let reason = text_in(text);
@@ -319,7 +325,9 @@ fn output_out(o: Output) -> Out
 }
 
 /// Place by place, also those that are not queued.
-pub fn queue_in(q: Queue) -> Outputs {
+pub fn queue_in(q: Queue) -> Outputs
+    ensures { λ r. ⌜ r ≡ queueIn q ⌝ }
+{
     let mut outputs = Outputs::new();
     let mut i: usize = 0;
     while i < MAX_OUTPUTS {
@@ -358,7 +366,9 @@ pub fn queue_out(outputs: Outputs) -> Queue
 }
 
 /// Whether every place holds an output.
-pub fn all_said(q: Queue) -> bool {
+pub fn all_said(q: Queue) -> bool
+    ensures { λ r. ⌜ r ≡ allSaid (q .slots) ⌝ }
+{
     let mut i: usize = 0;
     while i < MAX_OUTPUTS {
         let o = q.slots[i];

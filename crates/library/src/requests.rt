@@ -1,4 +1,6 @@
 //! A request's numbers as a call (01, "Trace program").
+ghost use mathlib.Core.Path.{_≡_};
+ghost use Rattle.library.specs.Requests.{messageIn, entryIn, peerIn};
 use crate::codes::listed;
 use crate::codes::rejection_in;
 use crate::codes::termination_in;
@@ -20,7 +22,9 @@ use types::messages::Sequence;
 use types::messages::Terminate;
 
 /// A peer's message by the kinds 32 to 44.
-fn message_in(r: Request) -> PeerMessage {
+fn message_in(r: Request) -> PeerMessage
+    ensures { λ x. ⌜ x ≡ messageIn r ⌝ }
+{
     let id = r.id;
     let seq = r.seq;
     let kind = r.kind;
@@ -73,7 +77,9 @@ fn message_in(r: Request) -> PeerMessage {
 }
 
 /// A call by its kind; another kind or a code outside its list is Malformed.
-pub fn entry_in(r: Request) -> Entry {
+pub fn entry_in(r: Request) -> Entry
+    ensures { λ x. ⌜ x ≡ entryIn r ⌝ }
+{
     let seq = r.seq;
     let kind = r.kind;
     match kind {
@@ -105,7 +111,9 @@ pub fn entry_in(r: Request) -> Entry {
 }
 
 /// A peer's message with its code of its list.
-fn peer_in(r: Request) -> Entry {
+fn peer_in(r: Request) -> Entry
+    ensures { λ x. ⌜ x ≡ peerIn r ⌝ }
+{
     if r.kind < 32 {
         return Entry::Malformed;
     }

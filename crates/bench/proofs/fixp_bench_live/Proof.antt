@@ -1,15 +1,14 @@
--- Each turn goes one further, and no number passes its width.
-use Prim.Native.Nat.{_-_, _≤_}
-use native.Mathlib.Omega.{arith}
+-- The loop counts up to its bound.
 use borrow.Author.Needs.{needs}
+use Prim.Native.Nat.{_-_, _≤_}
 use Rattle.bench.proofs.fixp_bench_live.Statement.{statement}
 use Rattle.bench.proofs.fixp_bench_live.Tie as tie
 
 abbrev Inv-loop : tie.InvT-loop
-Inv-loop turns gaps runs session₀ binding₀ reason queue i₀ session binding i = i ≤ turns
+Inv-loop turns gaps runs session₀ binding₀ reason₀ queue₀ i₀ session binding reason queue i = i ≤ turns
 
 abbrev μ-loop : tie.MeasureT-loop
-μ-loop turns gaps runs session₀ binding₀ reason queue i₀ session binding i = turns - i
+μ-loop turns gaps runs session₀ binding₀ reason₀ queue₀ i₀ session binding reason queue i = turns - i
 
 start-requires : tie.Need-start-requires Inv-loop μ-loop
 start-requires c κs = search needs
@@ -26,29 +25,38 @@ returns c = search needs
 live-requires : tie.Need-live-requires Inv-loop μ-loop
 live-requires c κs = search needs
 
-enum-known-seq : tie.Need-enum-known-seq Inv-loop μ-loop
-enum-known-seq c = search needs
-
-enum-told : tie.Need-enum-told Inv-loop μ-loop
-enum-told c = search needs
+enum-known-number : tie.Need-enum-known-number Inv-loop μ-loop
+enum-known-number c = search needs
 
 returns-2 : tie.Need-returns-2 Inv-loop μ-loop
 returns-2 c = search needs
 
+add-t18 : tie.Need-add-t18 Inv-loop μ-loop
+add-t18 c = search needs
+
+enum-told : tie.Need-enum-told Inv-loop μ-loop
+enum-told c = search needs
+
+link-requires : tie.Need-link-requires Inv-loop μ-loop
+link-requires c κs = search needs
+
+on-application-requires : tie.Need-on-application-requires Inv-loop μ-loop
+on-application-requires c κs = search needs
+
+hold-requires : tie.Need-hold-requires Inv-loop μ-loop
+hold-requires c κs = search needs
+
 returns-3 : tie.Need-returns-3 Inv-loop μ-loop
 returns-3 c = search needs
 
-add-t16 : tie.Need-add-t16 Inv-loop μ-loop
-add-t16 c = search needs
-
 add-i : tie.Need-add-i Inv-loop μ-loop
-add-i c = let t = c .before .before .before .before .before .before .before .before .before .loop-test .taken in omega (arith, t, c .before .before .before .before .before .before .before .before .before .before .before .before .before .before .before .before .fits)
+add-i c = search needs
 
 loop-less : tie.Need-loop-less Inv-loop μ-loop
-loop-less c = let t = c .before .before .before .before .before .before .before .before .before .loop-test .taken in omega (arith, t, c .before .before .before .before .before .before .before .before .before .before .before .before .before .before .before .before .fits)
+loop-less c = search needs
 
 loop-again : tie.Need-loop-again Inv-loop μ-loop
-loop-again c = let t = c .before .before .before .before .before .before .before .before .before .loop-test .taken in omega (arith, t, c .before .before .before .before .before .before .before .before .before .before .before .before .before .before .before .before .fits)
+loop-again c = search needs
 
 expected-requires : tie.Need-expected-requires Inv-loop μ-loop
 expected-requires c κs = search needs
@@ -67,11 +75,14 @@ fixp-bench-live-spec =
     is-ready-requires
     returns
     live-requires
-    enum-known-seq
-    enum-told
+    enum-known-number
     returns-2
+    add-t18
+    enum-told
+    link-requires
+    on-application-requires
+    hold-requires
     returns-3
-    add-t16
     add-i
     loop-less
     loop-again

@@ -1,7 +1,7 @@
--- Each turn goes one further, and no number passes its width.
-use Prim.Native.Nat.{_-_, _≤_}
-use native.Mathlib.Omega.{arith}
+-- The loop counts up to its bound.
 use borrow.Author.Needs.{needs}
+use native.Mathlib.Omega.{arith}
+use Prim.Native.Nat.{_-_, _≤_}
 use Rattle.bench.proofs.fixp_bench_plain.Statement.{statement}
 use Rattle.bench.proofs.fixp_bench_plain.Tie as tie
 
@@ -27,10 +27,10 @@ add-i : tie.Need-add-i Inv-loop μ-loop
 add-i c = let t = c .before .before .before .before .loop-test .taken in omega (arith, t, c .before .before .before .before .before .before .before .before .before .before .before .before .fits)
 
 loop-less : tie.Need-loop-less Inv-loop μ-loop
-loop-less c = let t = c .before .before .before .before .loop-test .taken in omega (arith, t, c .before .before .before .before .before .before .before .before .before .before .before .before .fits)
+loop-less c = search needs
 
 loop-again : tie.Need-loop-again Inv-loop μ-loop
-loop-again c = let t = c .before .before .before .before .loop-test .taken in omega (arith, t, c .before .before .before .before .before .before .before .before .before .before .before .before .fits)
+loop-again c = search needs
 
 expected-requires : tie.Need-expected-requires Inv-loop μ-loop
 expected-requires c κs = search needs

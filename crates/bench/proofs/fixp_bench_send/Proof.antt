@@ -1,15 +1,14 @@
--- Each turn goes one further, and no number passes its width.
-use Prim.Native.Nat.{_-_, _≤_}
-use native.Mathlib.Omega.{arith}
+-- The loop counts up to its bound.
 use borrow.Author.Needs.{needs}
+use Prim.Native.Nat.{_-_, _≤_}
 use Rattle.bench.proofs.fixp_bench_send.Statement.{statement}
 use Rattle.bench.proofs.fixp_bench_send.Tie as tie
 
 abbrev Inv-loop : tie.InvT-loop
-Inv-loop turns session₀ binding₀ reason queue i₀ session binding i = i ≤ turns
+Inv-loop turns session₀ binding₀ reason₀ queue₀ i₀ session binding reason queue i = i ≤ turns
 
 abbrev μ-loop : tie.MeasureT-loop
-μ-loop turns session₀ binding₀ reason queue i₀ session binding i = turns - i
+μ-loop turns session₀ binding₀ reason₀ queue₀ i₀ session binding reason queue i = turns - i
 
 start-requires : tie.Need-start-requires Inv-loop μ-loop
 start-requires c κs = search needs
@@ -20,32 +19,38 @@ loop-holds c = search needs
 is-ready-requires : tie.Need-is-ready-requires Inv-loop μ-loop
 is-ready-requires c κs = search needs
 
+sent-requires : tie.Need-sent-requires Inv-loop μ-loop
+sent-requires c κs = search needs
+
 returns : tie.Need-returns Inv-loop μ-loop
 returns c = search needs
 
-sent-requires : tie.Need-sent-requires Inv-loop μ-loop
-sent-requires c κs = search needs
+add-t16 : tie.Need-add-t16 Inv-loop μ-loop
+add-t16 c = search needs
+
+link-requires : tie.Need-link-requires Inv-loop μ-loop
+link-requires c κs = search needs
+
+send-application-requires : tie.Need-send-application-requires Inv-loop μ-loop
+send-application-requires c κs = search needs
+
+hold-requires : tie.Need-hold-requires Inv-loop μ-loop
+hold-requires c κs = search needs
 
 returns-2 : tie.Need-returns-2 Inv-loop μ-loop
 returns-2 c = search needs
 
-returns-3 : tie.Need-returns-3 Inv-loop μ-loop
-returns-3 c = search needs
-
-add-t13 : tie.Need-add-t13 Inv-loop μ-loop
-add-t13 c = search needs
-
 add-i : tie.Need-add-i Inv-loop μ-loop
-add-i c = let t = c .before .before .before .before .before .before .before .before .loop-test .taken in omega (arith, t, c .before .before .before .before .before .before .before .before .before .before .before .before .before .before .before .fits)
+add-i c = search needs
 
 loop-less : tie.Need-loop-less Inv-loop μ-loop
-loop-less c = let t = c .before .before .before .before .before .before .before .before .loop-test .taken in omega (arith, t, c .before .before .before .before .before .before .before .before .before .before .before .before .before .before .before .fits)
+loop-less c = search needs
 
 loop-again : tie.Need-loop-again Inv-loop μ-loop
-loop-again c = let t = c .before .before .before .before .before .before .before .before .loop-test .taken in omega (arith, t, c .before .before .before .before .before .before .before .before .before .before .before .before .before .before .before .fits)
+loop-again c = search needs
 
-returns-4 : tie.Need-returns-4 Inv-loop μ-loop
-returns-4 c = search needs
+returns-3 : tie.Need-returns-3 Inv-loop μ-loop
+returns-3 c = search needs
 
 pub fixp-bench-send-spec : {M : Type 1} → statement M
 fixp-bench-send-spec =
@@ -56,12 +61,14 @@ fixp-bench-send-spec =
     start-requires
     loop-holds
     is-ready-requires
-    returns
     sent-requires
+    returns
+    add-t16
+    link-requires
+    send-application-requires
+    hold-requires
     returns-2
-    returns-3
-    add-t13
     add-i
     loop-less
     loop-again
-    returns-4)
+    returns-3)

@@ -1,11 +1,16 @@
--- stub
+-- Each turn puts the output of one place at its place; after the last the array is the list of outputs.
+use Prim.Native.Nat.{_<_, _≤_, _-_}
+use mathlib.Core.Path.{_≡_, refl}
+use native.Mathlib.Omega.{arith}
+use Rattle.rings.proofs.Laws.{long-of}
+use Rattle.library.specs.Outputs.{outputIn}
+use Rattle.library.proofs.Copying.{copied, Upto, placed, filled}
 use borrow.Author.Needs.{needs}
-use Prim.Native.Nat.{_≤_, _-_}
 use Rattle.library.proofs.outputs.queue_in.Statement.{statement}
 use Rattle.library.proofs.outputs.queue_in.Tie as tie
 
 abbrev Inv-loop : tie.InvT-loop
-Inv-loop q outputs₀ i₀ outputs i = i ≤ 32
+Inv-loop q outputs₀ i₀ outputs i = Upto outputIn (q .slots) (outputs₀ .slots) (outputs .slots) i 32
 
 abbrev μ-loop : tie.MeasureT-loop
 μ-loop q outputs₀ i₀ outputs i = 32 - i
@@ -14,7 +19,8 @@ new-requires : tie.Need-new-requires Inv-loop μ-loop
 new-requires c κs = search needs
 
 loop-holds : tie.Need-loop-holds Inv-loop μ-loop
-loop-holds c = search needs
+unfolding copied
+loop-holds c = record { few = search needs; long = search (needs, long-of); room = search (needs, long-of); is = refl }
 
 mul-o : tie.Need-mul-o Inv-loop μ-loop
 mul-o c = search needs
@@ -38,10 +44,18 @@ loop-less : tie.Need-loop-less Inv-loop μ-loop
 loop-less c = search needs
 
 loop-again : tie.Need-loop-again Inv-loop μ-loop
-loop-again c = search needs
+loop-again c =
+    let l = c .before .before .before .loop in
+    let h : l .i < 32 = omega arith in
+    placed outputIn (c .before .before .before .before .before .args .t1 .slots) _ (l .outputs .slots) (l .i) 32 _ _ (l .inv) h (c .output-in .ensures)
 
 returns : tie.Need-returns Inv-loop μ-loop
-returns c = search needs
+returns c =
+    let a = c .before .before .before .args .t1 in
+    let l = c .before .loop in
+    let h : 32 ≤ l .i = omega arith in
+    let e : l .outputs .slots ≡ _ = filled outputIn (a .slots) _ (l .outputs .slots) (l .i) 32 (l .inv) h in
+    λ j. record { slots = e j; head = a .head; count = a .count; closing = a .closing }
 
 pub queue-in-spec : {M : Type 1} → statement M
 queue-in-spec =
