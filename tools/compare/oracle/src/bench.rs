@@ -398,32 +398,41 @@ pub fn run() {
         "\n| live numbering, as history grows | Rust ns | port ns | ratio |\n|---|---|---|---|"
     );
     for before in [10, 10_000, 1_000_000] {
-        line_after(before);
+        let name = format!("after {before} calls");
+        line_behind(&name, before, 1_000_000, &|n| live(n, 0, 0), &|n| fixp_bench_live(n, 0, 0));
     }
     for (gaps, runs) in LISTS {
         let lists = Host::with_runs(gaps, runs).lists();
         assert_eq!(lists, fixp_bench_lists(gaps, runs), "the two have the same lists");
-        line(
+        line_behind(
             &format!("with {} gaps and {} runs", lists / 1000, lists % 1000),
+            10,
             1_000_000,
-            |n| live(n, gaps, runs),
-            |n| fixp_bench_live(n, gaps, runs),
+            &|n| live(n, gaps, runs),
+            &|n| fixp_bench_live(n, gaps, runs),
         );
     }
     for (gaps, runs) in [(0, 0), (64, 0), (64, 256)] {
         let lists = Host::with_runs(gaps, runs).lists();
-        line(
+        line_behind(
             &format!("by the plain call, with {} gaps and {} runs", lists / 1000, lists % 1000),
+            10,
             100_000,
-            |n| live(n, gaps, runs),
-            |n| fixp_bench_plain(n, gaps, runs),
+            &|n| live(n, gaps, runs),
+            &|n| fixp_bench_plain(n, gaps, runs),
         );
     }
 }
 
-/// The cost of a call behind so many others: a million calls more, and what those before took taken off.
-fn line_after(before: u64) {
-    let more = 1_000_000;
+/// The cost of a call behind so many others: so many calls more, and what making the state and those before took taken off.
+fn line_behind(
+    name: &str,
+    before: u64,
+    more: u64,
+    rust: &dyn Fn(u64) -> u64,
+    port: &dyn Fn(u64) -> u64,
+) {
+    assert_eq!(rust(1000), port(1000), "{name}: the two do not agree");
     let cost = |run: &dyn Fn(u64) -> u64| {
         let whole = best(more, || {
             black_box(run(black_box(before + more)));
@@ -433,8 +442,8 @@ fn line_after(before: u64) {
         });
         whole - first
     };
-    let (of_rust, of_port) = (cost(&|n| live(n, 0, 0)), cost(&|n| fixp_bench_live(n, 0, 0)));
-    println!("| after {before} calls | {of_rust:.1} | {of_port:.1} | {:.2} |", of_port / of_rust);
+    let (of_rust, of_port) = (cost(rust), cost(port));
+    println!("| {name} | {of_rust:.1} | {of_port:.1} | {:.2} |", of_port / of_rust);
 }
 
 fn trace_line() {
