@@ -14,6 +14,7 @@ import sys
 # (file, name): its new name, where snake case alone would meet another name
 APART = {
     'crates/loss/specs/Reached.antt': {'front_of': 'ranges_at_front'},
+    'crates/loss/specs/Tidy.antt': {'has_room': 'room_fits'},
 }
 NAME = r"[A-Za-zα-ωΑ-Ω0-9_'◌∙]+(?:-[A-Za-zα-ωΑ-Ω0-9_'◌*]+)*"
 DECLARED = re.compile(r'^(\s*)((?:abbrev |unfoldable |pub |ruleset )*)(' + NAME + r')(?: \{[^}]*\})*\s+:(?:\s|$)')
@@ -33,7 +34,7 @@ def declared_in(text):
             continue
         if m[1] and kind in ('record', 'data'):
             yield m[3], kind
-        elif m[1] == '' or len(m[1]) <= 2:
+        elif len(m[1]) <= 4:
             yield m[3], 'definition' if re.search('abbrev|unfoldable', m[2]) else 'lemma'
 
 

@@ -17,7 +17,7 @@ use types::parts::{
 use types::reasons::Reason;
 
 /// A record, its link taken apart; `bound` says that it is bound.
-#[derive(Drop)]
+#[derive(Clone, Copy)]
 pub struct Held {
     pub session: Session,
     pub binding: Binding,

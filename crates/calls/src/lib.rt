@@ -17,7 +17,7 @@ use types::messages::PeerMessage;
 use types::reasons::Reason;
 
 /// What a call leaves, and its answer.
-#[derive(Drop)]
+#[derive(Clone, Copy)]
 pub struct Called {
     pub session: Session,
     pub link: Link,

@@ -21,7 +21,7 @@ use types::reasons::Reason;
 pub mod held;
 
 /// What a call hands back: all but the queue, which the caller has.
-#[derive(Drop)]
+#[derive(Clone, Copy)]
 pub struct Handed {
     pub session: Session,
     pub link: Link,
@@ -29,7 +29,7 @@ pub struct Handed {
 }
 
 /// What a poll hands back: the output, if there was one.
-#[derive(Drop)]
+#[derive(Clone, Copy)]
 pub struct Taken {
     pub output: Output,
     pub some: bool,

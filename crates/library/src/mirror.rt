@@ -6,7 +6,7 @@ use types::reasons::MAX_REASON_LEN;
 
 /// A number that may be absent.
 #[repr(C)]
-#[derive(Drop)]
+#[derive(Clone, Copy)]
 pub struct Number {
     pub some: bool,
     pub it: u64,
@@ -14,7 +14,7 @@ pub struct Number {
 
 /// The two halves of a session's id.
 #[repr(C)]
-#[derive(Drop)]
+#[derive(Clone, Copy)]
 pub struct Id {
     pub low: u64,
     pub high: u64,
@@ -22,7 +22,7 @@ pub struct Id {
 
 /// The first `len` bytes of a reason.
 #[repr(C)]
-#[derive(Drop)]
+#[derive(Clone, Copy)]
 pub struct Text {
     pub bytes: [u8; MAX_REASON_LEN],
     pub len: usize,
@@ -30,7 +30,7 @@ pub struct Text {
 
 /// The numbers from..end.
 #[repr(C)]
-#[derive(Drop)]
+#[derive(Clone, Copy)]
 pub struct Range {
     pub from: u64,
     pub end: u64,
@@ -38,7 +38,7 @@ pub struct Range {
 
 /// The ring of gaps.
 #[repr(C)]
-#[derive(Drop)]
+#[derive(Clone, Copy)]
 pub struct Missing {
     pub slots: [Range; MAX_GAPS],
     pub head: usize,
@@ -47,7 +47,7 @@ pub struct Missing {
 
 /// The ring of overflow runs.
 #[repr(C)]
-#[derive(Drop)]
+#[derive(Clone, Copy)]
 pub struct Overflow {
     pub slots: [Range; MAX_RUNS],
     pub head: usize,
@@ -56,7 +56,7 @@ pub struct Overflow {
 
 /// What a session is opened with.
 #[repr(C)]
-#[derive(Drop)]
+#[derive(Clone, Copy)]
 pub struct Settings {
     pub max_gap_len: u64,
     pub max_retransmit_count: u32,
@@ -68,7 +68,7 @@ pub struct Settings {
 
 /// Our request in flight, if `some`.
 #[repr(C)]
-#[derive(Drop)]
+#[derive(Clone, Copy)]
 pub struct Asked {
     pub some: bool,
     pub interrupted: bool,
@@ -83,7 +83,7 @@ pub struct Asked {
 
 /// The batch being received, if `some`.
 #[repr(C)]
-#[derive(Drop)]
+#[derive(Clone, Copy)]
 pub struct Batch {
     pub some: bool,
     pub remaining: u32,
@@ -92,7 +92,7 @@ pub struct Batch {
 
 /// The peer's request being served, if `some`.
 #[repr(C)]
-#[derive(Drop)]
+#[derive(Clone, Copy)]
 pub struct Served {
     pub some: bool,
     pub count: u32,
@@ -103,7 +103,7 @@ pub struct Served {
 
 /// The peer's FinishedSending, if `some`.
 #[repr(C)]
-#[derive(Drop)]
+#[derive(Clone, Copy)]
 pub struct Finished {
     pub some: bool,
     pub receiving_sent: bool,
@@ -112,7 +112,7 @@ pub struct Finished {
 
 /// The binding, if `some`. `phase` is 1 Established, 2 Terminating with `sent_at` and `code`, 3 Closing with `deadline`.
 #[repr(C)]
-#[derive(Drop)]
+#[derive(Clone, Copy)]
 pub struct Bond {
     pub some: bool,
     pub phase: u8,
@@ -128,7 +128,7 @@ pub struct Bond {
 
 /// An output: `kind` says which (see `outputs`), and which of the fields speak.
 #[repr(C)]
-#[derive(Drop)]
+#[derive(Clone, Copy)]
 pub struct Out {
     pub kind: u8,
     pub code: u8,
@@ -145,7 +145,7 @@ pub struct Out {
 
 /// The output queue.
 #[repr(C)]
-#[derive(Drop)]
+#[derive(Clone, Copy)]
 pub struct Queue {
     pub slots: [Out; MAX_OUTPUTS],
     pub head: usize,
@@ -155,7 +155,7 @@ pub struct Queue {
 
 /// A session, its binding, the reason of our Terminate and the output queue.
 #[repr(C)]
-#[derive(Drop)]
+#[derive(Clone, Copy)]
 pub struct Record {
     pub id: Id,
     pub local_flow: u8,
@@ -179,7 +179,7 @@ pub struct Record {
 
 /// A call. `kind` is that of the trace record (01, "Trace program"), which also says which of the fields speak.
 #[repr(C)]
-#[derive(Drop)]
+#[derive(Clone, Copy)]
 pub struct Request {
     pub kind: u8,
     pub code: u8,
@@ -197,7 +197,7 @@ pub struct Request {
 
 /// What `fixp_open` takes.
 #[repr(C)]
-#[derive(Drop)]
+#[derive(Clone, Copy)]
 pub struct Opening {
     pub id: Id,
     pub local_flow: u8,
@@ -207,7 +207,7 @@ pub struct Opening {
 
 /// An answer: 1 ok, 2 accept, 3 replay, 4 discard, 5 sent, 6 batch, 7 refused (01, "Trace program"), the number that it has, if it has one, and what a refusal carries.
 #[repr(C)]
-#[derive(Drop)]
+#[derive(Clone, Copy)]
 pub struct Reply {
     pub kind: u8,
     pub refusal: u8,
@@ -218,7 +218,7 @@ pub struct Reply {
 
 /// What a call leaves, and its answer.
 #[repr(C)]
-#[derive(Drop)]
+#[derive(Clone, Copy)]
 pub struct Done {
     pub record: Record,
     pub reply: Reply,

@@ -71,10 +71,10 @@ module _ (start : Bool) (f gave : ℕ) (log : List Taking) (rej : List Gap) (Q :
 
   -- ---- live
   module _ (q : (y : SeqNum) → y.0 ≡ gave + 1 → Q (seq.Some y) replay.None false) where
-    numberedAs-runs : (x : MaybeSeq) (s : Sess) (b : Binding) → let S = with_replay replay.None (with_inbound x (with_start start s)) in Good S f log rej → number x ≡ gave → is_peer_finished s.peer_finished ≡ false → R (numbered_as x (with_start false S) b)
+    numbered_as-runs : (x : MaybeSeq) (s : Sess) (b : Binding) → let S = with_replay replay.None (with_inbound x (with_start start s)) in Good S f log rej → number x ≡ gave → is_peer_finished s.peer_finished ≡ false → R (numbered_as x (with_start false S) b)
     unfolding answering
-    numberedAs-runs seq.None s b i e u = absurd i.numbered
-    numberedAs-runs (seq.Some n) s b i e u =
+    numbered_as-runs seq.None s b i e u = absurd i.numbered
+    numbered_as-runs (seq.Some n) s b i e u =
         by-test R (eqb n.0 all_ones)
         (λ t. let j = good-first log rej f Q S i in discarded (violation 12 (with_start false S) b) (violation-keeps log rej F Q 12 (with_start false S) b
         (record { bounded = j.bounded; recoverable = j.recoverable; numbered = j.numbered; numbers = j.numbers; counts = j.counts; replays = j.replays; steady = j.steady; starts = tt })))
@@ -92,15 +92,15 @@ module _ (start : Bool) (f gave : ℕ) (log : List Taking) (rej : List Gap) (Q :
         S : Sess
         S = with_replay replay.None (with_inbound (seq.Some n) (with_start start s))
 
-    liveOn-runs : (p : FlowType) (s : Sess) (b : Binding) → let S = with_replay replay.None (with_start start s) in IsRecoverable p → Good S f log rej → number s.inbound_next ≡ gave → is_peer_finished s.peer_finished ≡ false → R (live_on p S b)
+    live_on-runs : (p : FlowType) (s : Sess) (b : Binding) → let S = with_replay replay.None (with_start start s) in IsRecoverable p → Good S f log rej → number s.inbound_next ≡ gave → is_peer_finished s.peer_finished ≡ false → R (live_on p S b)
     unfolding number_live
-    liveOn-runs flow.Recoverable s b r i e u =
+    live_on-runs flow.Recoverable s b r i e u =
         by-test R s.awaiting_resume
         (λ t. let S : Sess = with_replay replay.None (with_start start s) in discarded (violation 10 S b) (violation-keeps log rej F Q 10 S b (good-first log rej f Q S i)))
-        (λ t. numberedAs-runs s.inbound_next s b i e u)
-    liveOn-runs flow.Idempotent s b r i e u = absurd r
-    liveOn-runs flow.Unsequenced s b r i e u = absurd r
-    liveOn-runs flow.None s b r i e u = absurd r
+        (λ t. numbered_as-runs s.inbound_next s b i e u)
+    live_on-runs flow.Idempotent s b r i e u = absurd r
+    live_on-runs flow.Unsequenced s b r i e u = absurd r
+    live_on-runs flow.None s b r i e u = absurd r
 
     -- a live message: the expected number is the one that the peer gave it, unless the peer has finished
     pub live-runs : (s : Sess) (b : Binding) → let S = with_replay replay.None (with_start start s) in Good S f log rej → (is_peer_finished s.peer_finished ≡ false → number s.inbound_next ≡ gave) → R (on_live S b)
@@ -109,7 +109,7 @@ module _ (start : Bool) (f gave : ℕ) (log : List Taking) (rej : List Gap) (Q :
         let S : Sess = with_replay replay.None (with_start start s) in
         by-test R (is_peer_finished s.peer_finished)
         (λ t. discarded (violation 8 S b) (violation-keeps log rej F Q 8 S b (good-first log rej f Q S i)))
-        (λ t. liveOn-runs s.remote_flow s b i.recoverable i (e t) t)
+        (λ t. live_on-runs s.remote_flow s b i.recoverable i (e t) t)
 
 -- ---- of a batch
 left-fits : (r : Replay) (f c d : ℕ) → r.next.0 ≡ f + d → 0 < r.remaining → d + r.remaining ≤ c → ReplayFits (replay_after r) (asking f c (d + 1))

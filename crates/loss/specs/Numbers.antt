@@ -48,9 +48,9 @@ module _ (log : List Taking) (rej : List Gap) (f : ℕ) (Q : MaybeSeq → MaybeR
     appends ms t i = grown ms rs i (ms ++ (gap_of from to ∷ [])) (core-append f from to ms rs (asked_of s.outstanding) log rej l t i.numbers)
 
     -- a gap that is refused and held
-    holdAt-keeps : (g : Gap) (gs : List Gap) → last_end (g ∷ gs) < from.0 → Good (numbering from (g ∷ gs) rs s) f log rej → Keep (gap_held to (hold_at (gap.Some (last_of g gs)) from to (lists (g ∷ gs) rs)) (numbering from (g ∷ gs) rs s) b)
+    hold_at-keeps : (g : Gap) (gs : List Gap) → last_end (g ∷ gs) < from.0 → Good (numbering from (g ∷ gs) rs s) f log rej → Keep (gap_held to (hold_at (gap.Some (last_of g gs)) from to (lists (g ∷ gs) rs)) (numbering from (g ∷ gs) rs s) b)
     unfolding gap_held widen last_end
-    holdAt-keeps g gs t i =
+    hold_at-keeps g gs t i =
         by-test P (leb from.0 (last_of g gs).end.0) (λ u. absurd (let v = leb-true from.0 (last_of g gs).end.0 u in omega arith))
         (λ u. by-test P (leb max_runs (length rs)) (λ v. violation-keeps log rej (λ x. f) Q 18 (numbering from (g ∷ gs) rs s) b i)
         (λ v.
@@ -72,7 +72,7 @@ module _ (log : List Taking) (rej : List Gap) (f : ℕ) (Q : MaybeSeq → MaybeR
       where
         at : (ms : List Gap) → last_end ms < from.0 → Good (numbering from ms rs s) f log rej → Keep (gap_held to (hold_at (back_of ms) from to (lists ms rs)) (numbering from ms rs s) b)
         at [] t i = violation-keeps log rej (λ x. f) Q 18 (numbering to (gap_of from to ∷ []) rs s) b (appends [] t i)
-        at (g ∷ gs) t i = subst (λ (m : MaybeGap). Keep (gap_held to (hold_at m from to (lists (g ∷ gs) rs)) (numbering from (g ∷ gs) rs s) b)) (sym (back_is g gs)) (holdAt-keeps g gs t i)
+        at (g ∷ gs) t i = subst (λ (m : MaybeGap). Keep (gap_held to (hold_at m from to (lists (g ∷ gs) rs)) (numbering from (g ∷ gs) rs s) b)) (sym (back_is g gs)) (hold_at-keeps g gs t i)
 
     append-keeps : (ms : List Gap) → last_end ms < from.0 → Good (numbering from ms rs s) f log rej → Keep (gap_recorded now stamp from to (append_gap s.config.max_pending_gaps from to (lists ms rs)) (numbering from ms rs s) b)
     unfolding gap_recorded append_gap

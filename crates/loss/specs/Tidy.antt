@@ -687,8 +687,8 @@ in-link : (w : World) (f : Binding → Refused) (k : Binding → Did) (reason : 
 in-link w f k reason linked.None h g = absurd h
 in-link w f k reason (linked.Some b) h g = g b h
 
-has_room : (q : Queue) → has_room q ≡ true → length q.outs + 6 ≤ max_outs
-has_room q e = leb-true (length q.outs + 6) max_outs e
+room_fits : (q : Queue) → has_room q ≡ true → length q.outs + 6 ≤ max_outs
+room_fits q e = leb-true (length q.outs + 6) max_outs e
 
 done-snug : (c : Call) (w : World) → Snug w → Passes (wrong c w) → Snug (does c w).world
 unfolding no_text local.terminate_refused local.reject_refused local.retransmit local.reject_retransmit_request local.end_retransmission on_timeout
@@ -696,36 +696,36 @@ done-snug (bind_call now stamp l r x) w i h =
     let a = passed (sound w) _ _ h in
     let b = passed (not (rules.is_bound w.link.binding)) _ _ a.1 in
     let c = passed (has_room w.queue) _ _ b.1 in
-    ran-snug w no_text 6 (bind now stamp l r x w.session) i (has_room w.queue c.0) refl (bind-brief now stamp l r x w.session i.session)
+    ran-snug w no_text 6 (bind now stamp l r x w.session) i (room_fits w.queue c.0) refl (bind-brief now stamp l r x w.session i.session)
 done-snug release_call w i h = record { session = release-tidy w.session i.session; reason = refl; few = i.few; fit = i.fit }
 done-snug (peer_call now stamp m text) w i h =
     in-link w _ (on_peer m now stamp w.link.reason text w.session) w.link.reason w.link.binding (passed (sound w) _ _ h).1
     (λ b p. let a = passed (reason_fits text) _ _ p in let c = passed (has_room w.queue) _ _ a.1 in
-    ran-snug w w.link.reason 6 (on_peer m now stamp w.link.reason text w.session b) i (has_room w.queue c.0) i.reason (peer-brief m now stamp w.link.reason text w.session b i.reason a.0 i.session))
+    ran-snug w w.link.reason 6 (on_peer m now stamp w.link.reason text w.session b) i (room_fits w.queue c.0) i.reason (peer-brief m now stamp w.link.reason text w.session b i.reason a.0 i.session))
 done-snug (application_call now stamp) w i h =
     in-link w _ (on_application now stamp w.session) w.link.reason w.link.binding (passed (sound w) _ _ h).1
-    (λ b p. ran-snug w w.link.reason 6 (on_application now stamp w.session b) i (has_room w.queue (passed (has_room w.queue) _ _ p).0) i.reason (more 4 2 6 5 _ (omega arith) (omega arith) (application-brief now stamp w.session b i.session)))
+    (λ b p. ran-snug w w.link.reason 6 (on_application now stamp w.session b) i (room_fits w.queue (passed (has_room w.queue) _ _ p).0) i.reason (more 4 2 6 5 _ (omega arith) (omega arith) (application-brief now stamp w.session b i.session)))
 done-snug (send_call now) w i h =
     in-link w _ (local.send_application now w.session) w.link.reason w.link.binding (passed (sound w) _ _ h).1
-    (λ b p. ran-snug w w.link.reason 6 (local.send_application now w.session b) i (has_room w.queue (passed (has_room w.queue) _ _ p).0) i.reason (send-brief now w.session b i.session))
+    (λ b p. ran-snug w w.link.reason 6 (local.send_application now w.session b) i (room_fits w.queue (passed (has_room w.queue) _ _ p).0) i.reason (send-brief now w.session b i.session))
 done-snug (terminate_call now c text) w i h =
     in-link w _ (local.terminate now c text w.session) text w.link.binding (passed (sound w) _ _ h).1
     (λ b p. let a = passed (has_room w.queue) _ _ p in let e = passed (is_established b.state.it) _ _ a.1 in let f = passed (reason_fits text) _ _ e.1 in
-    ran-snug w text 6 (local.terminate now c text w.session b) i (has_room w.queue a.0) f.0 (terminate-brief now c text w.session b f.0 i.session))
+    ran-snug w text 6 (local.terminate now c text w.session b) i (room_fits w.queue a.0) f.0 (terminate-brief now c text w.session b f.0 i.session))
 done-snug (retransmit_call now count) w i h =
     in-link w _ (local.retransmit now count w.session) w.link.reason w.link.binding (passed (sound w) _ _ h).1
     (λ b p. let a = passed (not (eqb count 0)) _ _ p in let c = passed (has_room w.queue) _ _ a.1 in
-    ran-snug w w.link.reason 6 (local.retransmit now count w.session b) i (has_room w.queue c.0) i.reason (batch_at-brief w.session.provider now count w.session b i.session))
+    ran-snug w w.link.reason 6 (local.retransmit now count w.session b) i (room_fits w.queue c.0) i.reason (batch_at-brief w.session.provider now count w.session b i.session))
 done-snug (reject_call c text) w i h =
     in-link w _ (local.reject_retransmit_request c text w.session) w.link.reason w.link.binding (passed (sound w) _ _ h).1
     (λ b p. let a = passed (has_room w.queue) _ _ p in let e = passed (is_established b.state.it) _ _ a.1 in let f = passed (reason_fits text) _ _ e.1 in
-    ran-snug w w.link.reason 6 (local.reject_retransmit_request c text w.session b) i (has_room w.queue a.0) i.reason (reject_at-brief w.session.provider c text w.session b f.0 i.session))
+    ran-snug w w.link.reason 6 (local.reject_retransmit_request c text w.session b) i (room_fits w.queue a.0) i.reason (reject_at-brief w.session.provider c text w.session b f.0 i.session))
 done-snug end_call w i h =
     in-link w _ (local.end_retransmission w.session) w.link.reason w.link.binding (passed (sound w) _ _ h).1
     (λ b p. ran-snug w w.link.reason 0 (local.end_retransmission w.session b) i (let f = i.few in omega arith) i.reason (still 0 5 (with_provider provider.None w.session) b i.session))
 done-snug (timeout_call now stamp) w i h =
     in-link w _ (on_timeout now stamp w.link.reason w.session) w.link.reason w.link.binding (passed (sound w) _ _ h).1
-    (λ b p. ran-snug w w.link.reason 6 (on_timeout now stamp w.link.reason w.session b) i (has_room w.queue (passed (has_room w.queue) _ _ p).0) i.reason (timeout_in-brief b.state.it now stamp w.link.reason w.session b i.reason i.session))
+    (λ b p. ran-snug w w.link.reason 6 (on_timeout now stamp w.link.reason w.session b) i (room_fits w.queue (passed (has_room w.queue) _ _ p).0) i.reason (timeout_in-brief b.state.it now stamp w.link.reason w.session b i.reason i.session))
 
 call-snug : (c : Call) (w : World) → Snug w → Snug (call c w).world
 unfolding call

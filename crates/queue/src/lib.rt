@@ -1,4 +1,6 @@
 //! The output queue of Core with its closing flag (session.rs, Core): 32 places, filled by steps and emptied by the host.
+#![tactic(auto)]
+
 ghost use Rattle.std.specs.Prelude.{◌≡◌, ◌||◌, ◌∷◌, [], ◌+◌, ◌<◌, ◌≤◌, length};
 ghost use Rattle.rings.specs.Ring.{Wrapped};
 ghost use Rattle.rules.specs.State.{is_close, queued};
@@ -18,7 +20,7 @@ use types::reasons::Reason;
 pub const MAX_OUTPUTS: usize = 32;
 
 /// Outputs in order, oldest at `head`. `closing` is set when this side asks for the transport to be closed.
-#[derive(Drop)]
+#[derive(Clone, Copy)]
 pub struct Outputs {
     pub slots: [Output; MAX_OUTPUTS],
     pub head: usize,
@@ -27,7 +29,7 @@ pub struct Outputs {
 }
 
 /// What a poll gives: the queue without its first output, and that output, if there was one.
-#[derive(Drop)]
+#[derive(Clone, Copy)]
 pub struct Polled {
     pub queue: Outputs,
     pub output: Output,

@@ -18,7 +18,7 @@ use types::output::{Output, Said};
 use types::reasons::Reason;
 
 /// What a poll found. The output stands beside it: an enum holds no array.
-#[derive(Drop)]
+#[derive(Clone, Copy)]
 pub enum PollAnswer {
     Output,
     Empty,
@@ -26,7 +26,7 @@ pub enum PollAnswer {
 }
 
 /// What a poll gives: the queue that it leaves, and the output where the answer says that there is one.
-#[derive(Drop)]
+#[derive(Clone, Copy)]
 pub struct Polled {
     pub queue: Outputs,
     pub output: Output,
@@ -34,43 +34,43 @@ pub struct Polled {
 }
 
 /// What a report of a closed transport gives: the queue that it leaves.
-#[derive(Drop)]
+#[derive(Clone, Copy)]
 pub struct Closed {
     pub queue: Outputs,
     pub answer: Answer,
 }
 
-#[derive(Drop)]
+#[derive(Clone, Copy)]
 pub enum IdAnswer {
     Is(SessionId),
     Refused(Refusal),
 }
 
-#[derive(Drop)]
+#[derive(Clone, Copy)]
 pub enum FlowAnswer {
     Is(FlowType),
     Refused(Refusal),
 }
 
-#[derive(Drop)]
+#[derive(Clone, Copy)]
 pub enum SeqAnswer {
     Is(MaybeSeq),
     Refused(Refusal),
 }
 
-#[derive(Drop)]
+#[derive(Clone, Copy)]
 pub enum TruthAnswer {
     Is(bool),
     Refused(Refusal),
 }
 
-#[derive(Drop)]
+#[derive(Clone, Copy)]
 pub enum StatusAnswer {
     Is(SessionStatus),
     Refused(Refusal),
 }
 
-#[derive(Drop)]
+#[derive(Clone, Copy)]
 pub enum DeadlineAnswer {
     Is(MaybeInstant),
     Refused(Refusal),

@@ -11,7 +11,7 @@ use types::ids::{ALL_ONES, Instant, MaybeSeq, SeqNum};
 use types::messages::PeerMessage;
 
 /// An ordinary record, which changes a few fields and queues nothing.
-#[derive(Drop)]
+#[derive(Clone, Copy)]
 pub enum Quick {
     Live(SeqNum),
     Same,

@@ -12,7 +12,7 @@ use types::parts::{Gap, MaybeGap};
 pub const MAX_GAPS: usize = 65;
 
 /// `count` gaps, in order, from the place `head` on.
-#[derive(Drop)]
+#[derive(Clone, Copy)]
 pub struct GapRing {
     pub slots: [Gap; MAX_GAPS],
     pub head: usize,

@@ -11,21 +11,21 @@ use types::ids::SeqNum;
 use types::parts::{Gap, MaybeGap};
 
 /// The unrecovered gaps, in order, and the overflow runs: what was received live inside the last gap.
-#[derive(Drop)]
+#[derive(Clone, Copy)]
 pub struct Gaps {
     pub missing: GapRing,
     pub overflow_received: RunRing,
 }
 
 /// The lists, and whether the gap was kept.
-#[derive(Drop)]
+#[derive(Clone, Copy)]
 pub struct Kept {
     pub gaps: Gaps,
     pub ok: bool,
 }
 
 /// The lists, and whether the number was received already.
-#[derive(Drop)]
+#[derive(Clone, Copy)]
 pub struct Seen {
     pub gaps: Gaps,
     pub duplicate: bool,

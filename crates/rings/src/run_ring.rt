@@ -12,7 +12,7 @@ use types::parts::{Gap, MaybeGap};
 pub const MAX_RUNS: usize = 256;
 
 /// `count` runs, in order, from the place `head` on.
-#[derive(Drop)]
+#[derive(Clone, Copy)]
 pub struct RunRing {
     pub slots: [Gap; MAX_RUNS],
     pub head: usize,

@@ -1,1 +1,2 @@
 // The rule book: definitions only, in specs/. What each layer is proved against.
+#![tactic(auto)]

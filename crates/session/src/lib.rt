@@ -29,7 +29,7 @@ pub mod queries;
 pub mod serving;
 
 /// The logical session: identity, flows, configuration and sequence state (FIXP 3.4.3).
-#[derive(Drop)]
+#[derive(Clone, Copy)]
 pub struct Session {
     pub id: SessionId,
     pub local_flow: FlowType,
@@ -53,13 +53,13 @@ pub struct Session {
 }
 
 /// An answer in a struct of its own: a field that is an enum is not stored to.
-#[derive(Drop)]
+#[derive(Clone, Copy)]
 pub struct AnswerSlot {
     pub it: Answer,
 }
 
 /// What a step leaves: session, binding and queue, whether the binding stands, and the answer.
-#[derive(Drop)]
+#[derive(Clone, Copy)]
 pub struct Step {
     pub session: Session,
     pub binding: Binding,

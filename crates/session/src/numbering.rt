@@ -30,7 +30,7 @@ use types::reasons::{
 };
 
 /// The session after one more delivered message, and whether its request is now answered in full.
-#[derive(Drop)]
+#[derive(Clone, Copy)]
 pub struct Counted {
     pub session: Session,
     pub complete: bool,

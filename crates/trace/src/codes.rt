@@ -6,28 +6,28 @@ use types::config::RetransmitStallPolicy;
 use types::ids::{FlowType, RetransmitRejectCode, TerminationCode};
 
 /// A flow, if the code is one.
-#[derive(Drop)]
+#[derive(Clone, Copy)]
 pub enum MaybeFlow {
     Some(FlowType),
     None,
 }
 
 /// A policy, if the code is one.
-#[derive(Drop)]
+#[derive(Clone, Copy)]
 pub enum MaybePolicy {
     Some(RetransmitStallPolicy),
     None,
 }
 
 /// A termination code, if the number is one.
-#[derive(Drop)]
+#[derive(Clone, Copy)]
 pub enum MaybeTermination {
     Some(TerminationCode),
     None,
 }
 
 /// A rejection code, if the number is one.
-#[derive(Drop)]
+#[derive(Clone, Copy)]
 pub enum MaybeRejection {
     Some(RetransmitRejectCode),
     None,

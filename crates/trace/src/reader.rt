@@ -5,7 +5,7 @@ ghost use Rattle.trace.specs.Places.{size_at, Part, RecordAt};
 use crate::numbers::{HEADER, u16_at};
 
 /// The trace that is read, and the place of the next record.
-#[derive(Drop)]
+#[derive(Clone, Copy)]
 pub struct Trace<'a> {
     pub bytes: &'a [u8],
     pub at: usize,

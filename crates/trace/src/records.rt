@@ -20,7 +20,7 @@ use types::messages::{
 use types::reasons::{MAX_REASON_LEN, Reason};
 
 /// What a record asks for. A reason stands beside it.
-#[derive(Drop)]
+#[derive(Clone, Copy)]
 pub enum Entry {
     Open {
         id: SessionId,
@@ -46,7 +46,7 @@ pub enum Entry {
 }
 
 /// A record: what it asks for, its instant and stamp, and the reason that fills its rest.
-#[derive(Drop)]
+#[derive(Clone, Copy)]
 pub struct Record {
     pub entry: Entry,
     pub now: Instant,

@@ -2,21 +2,21 @@
 use crate::ids::{MaybeSeq, SeqNum};
 
 /// What becomes of an application message.
-#[derive(Drop)]
+#[derive(Clone, Copy)]
 pub enum Delivery {
     Accept { seq: MaybeSeq, retransmitted: bool },
     Discard,
 }
 
 /// The batch that a retransmit call announced.
-#[derive(Drop)]
+#[derive(Clone, Copy)]
 pub struct RetransmitBatch {
     pub from: SeqNum,
     pub count: u32,
 }
 
 /// Where a session stands, as a line of the trace prints it.
-#[derive(Drop)]
+#[derive(Clone, Copy)]
 pub enum SessionStatus {
     Unbound,
     Established,
@@ -25,7 +25,7 @@ pub enum SessionStatus {
 }
 
 /// The local calls that refusal 8 names.
-#[derive(Drop)]
+#[derive(Clone, Copy)]
 pub enum Operation {
     SendApplication,
     Terminate,
@@ -35,7 +35,7 @@ pub enum Operation {
 }
 
 /// Why a call was refused: 01's table, in its order.
-#[derive(Drop)]
+#[derive(Clone, Copy)]
 pub enum Refusal {
     BadRecord,
     BadConfig,
@@ -63,7 +63,7 @@ pub enum Refusal {
 }
 
 /// What a call answers.
-#[derive(Drop)]
+#[derive(Clone, Copy)]
 pub enum Answer {
     Ok,
     Delivered(Delivery),

@@ -7,7 +7,7 @@ use crate::ids::{Instant, MaybeInstant, TerminationCode};
 use crate::reasons::Reason;
 
 /// Whether a step kept or ended the binding.
-#[derive(Drop)]
+#[derive(Clone, Copy)]
 pub enum Bound {
     Stay,
     Unbind,
@@ -25,7 +25,7 @@ impl Bound {
 }
 
 /// Where a binding is in its lifecycle. The reason of Terminating stands in the Link.
-#[derive(Drop)]
+#[derive(Clone, Copy)]
 pub enum BindState {
     Established,
     Terminating {
@@ -38,13 +38,13 @@ pub enum BindState {
 }
 
 /// The state in a struct of its own: a field that is an enum is not stored to.
-#[derive(Drop)]
+#[derive(Clone, Copy)]
 pub struct StateSlot {
     pub it: BindState,
 }
 
 /// A session bound to one transport. Keepalives are nanoseconds.
-#[derive(Drop)]
+#[derive(Clone, Copy)]
 pub struct Binding {
     pub state: StateSlot,
     pub local_keepalive: u64,
@@ -93,14 +93,14 @@ impl Binding {
 }
 
 /// A binding, if there is one.
-#[derive(Drop)]
+#[derive(Clone, Copy)]
 pub enum MaybeBinding {
     Some(Binding),
     None,
 }
 
 /// The binding of a record, with the reason of this side's Terminate beside it.
-#[derive(Drop)]
+#[derive(Clone, Copy)]
 pub struct Link {
     pub binding: MaybeBinding,
     pub reason: Reason,

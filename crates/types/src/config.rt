@@ -1,7 +1,7 @@
 //! The configuration of a session (config.rs, as 01 fixes it).
 
 /// What to do with a stalled request; 01 numbers them 1 to 4.
-#[derive(Drop)]
+#[derive(Clone, Copy)]
 pub enum RetransmitStallPolicy {
     Terminate,
     ReRequestAfterContextSwitch,
@@ -10,14 +10,14 @@ pub enum RetransmitStallPolicy {
 }
 
 /// A duration in nanoseconds that may be absent.
-#[derive(Drop)]
+#[derive(Clone, Copy)]
 pub enum MaybeDuration {
     Some(u64),
     None,
 }
 
 /// What a session is opened with. Refusal 2 has the ranges.
-#[derive(Drop)]
+#[derive(Clone, Copy)]
 pub struct FixpConfig {
     pub max_gap_len: u64,
     pub max_retransmit_count: u32,

@@ -7,19 +7,19 @@ ghost use Rattle.types.specs.Flows.{is_sequenced, is_recoverable, is_idempotent,
 pub const ALL_ONES: u64 = 18446744073709551615;
 
 /// A sequence number of an application message.
-#[derive(Drop)]
+#[derive(Clone, Copy)]
 pub struct SeqNum(pub u64);
 
 /// The stamp of a request. All ones, handed in with a call, means that the clock is out of range.
-#[derive(Drop)]
+#[derive(Clone, Copy)]
 pub struct Nanotime(pub u64);
 
 /// An instant in nanoseconds.
-#[derive(Drop)]
+#[derive(Clone, Copy)]
 pub struct Instant(pub u64);
 
 /// The 16 bytes of a session's id as two little-endian halves.
-#[derive(Drop)]
+#[derive(Clone, Copy)]
 pub struct SessionId(pub u64, pub u64);
 
 impl SessionId {
@@ -34,14 +34,14 @@ impl SessionId {
 }
 
 /// A number that may be absent, as a NextSeqNo or a LastSeqNo.
-#[derive(Drop)]
+#[derive(Clone, Copy)]
 pub enum MaybeSeq {
     Some(SeqNum),
     None,
 }
 
 /// A deadline that may be absent.
-#[derive(Drop)]
+#[derive(Clone, Copy)]
 pub enum MaybeInstant {
     Some(Instant),
     None,
@@ -60,7 +60,7 @@ impl Instant {
 }
 
 /// The delivery guarantee of one direction (FIXP 3.4.4); 01 numbers them 1 to 4.
-#[derive(Drop)]
+#[derive(Clone, Copy)]
 pub enum FlowType {
     Recoverable,
     Idempotent,
@@ -117,7 +117,7 @@ impl FlowType {
 }
 
 /// The code of a Terminate (FIXP 4.4); 01 numbers them 1 to 4.
-#[derive(Drop)]
+#[derive(Clone, Copy)]
 pub enum TerminationCode {
     Finished,
     UnspecifiedError,
@@ -140,7 +140,7 @@ impl TerminationCode {
 }
 
 /// The code of a RetransmitReject (FIXP 4.6.2.3); 01 numbers them 1 to 3.
-#[derive(Drop)]
+#[derive(Clone, Copy)]
 pub enum RetransmitRejectCode {
     OutOfRange,
     InvalidSession,

@@ -1,4 +1,6 @@
 //! The plain types that every layer shares, under the Rust's own names.
+#![tactic(auto)]
+
 pub mod answers;
 pub mod binding;
 pub mod config;

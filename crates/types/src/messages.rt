@@ -5,20 +5,20 @@ ghost use Rattle.types.specs.Messages.{name_of};
 use crate::ids::{MaybeSeq, Nanotime, RetransmitRejectCode, SeqNum, SessionId, TerminationCode};
 
 /// Announces the number of the next application message (FIXP 3.5.2).
-#[derive(Drop)]
+#[derive(Clone, Copy)]
 pub struct Sequence {
     pub next_seq_no: SeqNum,
 }
 
 /// Switches to a session and announces its next number (FIXP 3.5.3).
-#[derive(Drop)]
+#[derive(Clone, Copy)]
 pub struct Context {
     pub session_id: SessionId,
     pub next_seq_no: SeqNum,
 }
 
 /// Asks for a range again (FIXP 4.6.1).
-#[derive(Drop)]
+#[derive(Clone, Copy)]
 pub struct RetransmitRequest {
     pub session_id: SessionId,
     pub timestamp: Nanotime,
@@ -27,7 +27,7 @@ pub struct RetransmitRequest {
 }
 
 /// The header of a batch (FIXP 4.6.2).
-#[derive(Drop)]
+#[derive(Clone, Copy)]
 pub struct Retransmission {
     pub session_id: SessionId,
     pub request_timestamp: Nanotime,
@@ -36,7 +36,7 @@ pub struct Retransmission {
 }
 
 /// Refuses a request (FIXP 4.6.2.3).
-#[derive(Drop)]
+#[derive(Clone, Copy)]
 pub struct RetransmitReject {
     pub session_id: SessionId,
     pub request_timestamp: Nanotime,
@@ -44,41 +44,41 @@ pub struct RetransmitReject {
 }
 
 /// Ends a binding (FIXP 4.4).
-#[derive(Drop)]
+#[derive(Clone, Copy)]
 pub struct Terminate {
     pub session_id: SessionId,
     pub code: TerminationCode,
 }
 
 /// The peer's flow is over (FIXP 4.7.1).
-#[derive(Drop)]
+#[derive(Clone, Copy)]
 pub struct FinishedSending {
     pub session_id: SessionId,
     pub last_seq_no: MaybeSeq,
 }
 
 /// The answer to FinishedSending (FIXP 4.7.2).
-#[derive(Drop)]
+#[derive(Clone, Copy)]
 pub struct FinishedReceiving {
     pub session_id: SessionId,
 }
 
 /// The peer applied these of our messages (FIXP 4.8.1).
-#[derive(Drop)]
+#[derive(Clone, Copy)]
 pub struct Applied {
     pub from_seq_no: SeqNum,
     pub count: u32,
 }
 
 /// These of the other side's messages were not applied (FIXP 4.8.2).
-#[derive(Drop)]
+#[derive(Clone, Copy)]
 pub struct NotApplied {
     pub from_seq_no: SeqNum,
     pub count: u32,
 }
 
 /// A session message that may arrive once bound: the 13 kinds, in the Rust's order.
-#[derive(Drop)]
+#[derive(Clone, Copy)]
 pub enum PeerMessage {
     Topic,
     Sequence(Sequence),
@@ -96,7 +96,7 @@ pub enum PeerMessage {
 }
 
 /// The names that Ignored and Refused give.
-#[derive(Drop)]
+#[derive(Clone, Copy)]
 pub enum MessageName {
     Topic,
     Sequence,
@@ -138,7 +138,7 @@ impl PeerMessage {
 }
 
 /// A message that this side sends.
-#[derive(Drop)]
+#[derive(Clone, Copy)]
 pub enum SessionMessage {
     Sequence(Sequence),
     UnsequencedHeartbeat,

@@ -4,14 +4,14 @@ use crate::messages::{MessageName, NotApplied, SessionMessage};
 use crate::reasons::Reason;
 
 /// Who ended a binding.
-#[derive(Drop)]
+#[derive(Clone, Copy)]
 pub enum TerminatedBy {
     Local,
     Peer,
 }
 
 /// What is reported to the application. Reasons stand beside, in the Output.
-#[derive(Drop)]
+#[derive(Clone, Copy)]
 pub enum Event {
     Refused(MessageName),
     SequenceGap {
@@ -53,7 +53,7 @@ pub enum Event {
 }
 
 /// An output without its reason.
-#[derive(Drop)]
+#[derive(Clone, Copy)]
 pub enum Said {
     Send(SessionMessage),
     SendApplication { seq: MaybeSeq, message: NotApplied },
@@ -62,7 +62,7 @@ pub enum Said {
 }
 
 /// An output: what is said, the number of its reason (0: none), and the bytes of a host's or peer's reason.
-#[derive(Drop)]
+#[derive(Clone, Copy)]
 pub struct Output {
     pub said: Said,
     pub reason: u8,

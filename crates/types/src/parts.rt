@@ -3,21 +3,21 @@
 use crate::ids::{Instant, MaybeSeq, Nanotime, SeqNum};
 
 /// A half-open range of sequence numbers, from..end.
-#[derive(Drop)]
+#[derive(Clone, Copy)]
 pub struct Gap {
     pub from: SeqNum,
     pub end: SeqNum,
 }
 
 /// What a list of gaps has at an end.
-#[derive(Drop)]
+#[derive(Clone, Copy)]
 pub enum MaybeGap {
     Some(Gap),
     None,
 }
 
 /// This side's RetransmitRequest in flight.
-#[derive(Drop)]
+#[derive(Clone, Copy)]
 pub struct Outstanding {
     pub timestamp: Nanotime,
     pub from: SeqNum,
@@ -29,40 +29,40 @@ pub struct Outstanding {
     pub stall_reported: bool,
 }
 
-#[derive(Drop)]
+#[derive(Clone, Copy)]
 pub enum MaybeOutstanding {
     Some(Outstanding),
     None,
 }
 
 /// The peer has sent FinishedSending; on a sequenced flow `end` is LastSeqNo + 1 (FIXP 4.7).
-#[derive(Drop)]
+#[derive(Clone, Copy)]
 pub struct PeerFinished {
     pub receiving_sent: bool,
     pub end: MaybeSeq,
 }
 
-#[derive(Drop)]
+#[derive(Clone, Copy)]
 pub enum MaybePeerFinished {
     Some(PeerFinished),
     None,
 }
 
 /// A batch being received: the next message is `next`, and `remaining` belong to it, at least one.
-#[derive(Drop)]
+#[derive(Clone, Copy)]
 pub struct Replay {
     pub next: SeqNum,
     pub remaining: u32,
 }
 
-#[derive(Drop)]
+#[derive(Clone, Copy)]
 pub enum MaybeReplay {
     Some(Replay),
     None,
 }
 
 /// A peer's RetransmitRequest being answered.
-#[derive(Drop)]
+#[derive(Clone, Copy)]
 pub struct Provider {
     pub request_timestamp: Nanotime,
     pub from: SeqNum,
@@ -70,33 +70,33 @@ pub struct Provider {
     pub sent: u32,
 }
 
-#[derive(Drop)]
+#[derive(Clone, Copy)]
 pub enum MaybeProvider {
     Some(Provider),
     None,
 }
 
-#[derive(Drop)]
+#[derive(Clone, Copy)]
 pub struct SeqSlot {
     pub it: MaybeSeq,
 }
 
-#[derive(Drop)]
+#[derive(Clone, Copy)]
 pub struct OutstandingSlot {
     pub it: MaybeOutstanding,
 }
 
-#[derive(Drop)]
+#[derive(Clone, Copy)]
 pub struct ReplaySlot {
     pub it: MaybeReplay,
 }
 
-#[derive(Drop)]
+#[derive(Clone, Copy)]
 pub struct ProviderSlot {
     pub it: MaybeProvider,
 }
 
-#[derive(Drop)]
+#[derive(Clone, Copy)]
 pub struct PeerFinishedSlot {
     pub it: MaybePeerFinished,
 }

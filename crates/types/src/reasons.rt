@@ -6,7 +6,7 @@ ghost use Rattle.types.specs.Reasons.{no_text, reason_fits};
 pub const MAX_REASON_LEN: usize = 64;
 
 /// A reason as bytes: the first `len` of them.
-#[derive(Drop)]
+#[derive(Clone, Copy)]
 pub struct Reason {
     pub bytes: [u8; MAX_REASON_LEN],
     pub len: usize,

@@ -1,0 +1,16 @@
+-- With a count of 0 the list is empty; else its last element stands count - 1 places after the head.
+use borrow.Author.Rules.{rules}
+use native.Mathlib.Omega.{arith}
+use Rattle.rules.specs.Gaps.{max_gaps}
+use Rattle.rings.specs.View.{gap_list, no_gap}
+use Rattle.rings.proofs.Laws.{ring-none, ring-last}
+use Rattle.rings.proofs.GapLaws.{back-snoc}
+use Rattle.rings.proofs.gap_ring.GapRing.back.Goals as goal
+
+pub returns-then-self-eq0 : goal.returns-then-self-eq0
+unfolding gap_list
+returns-then-self-eq0 c = rw (ring-none max_gaps no_gap c.args.self.slots c.args.self.head c.args.self.count c.if-self-eq0.true)
+
+pub returns : goal.returns
+unfolding gap_list
+returns c = rw (c.wrap-at.ensures.is, ring-last max_gaps no_gap c.args.self.slots c.args.self.head c.args.self.count (omega arith) (omega arith) (omega arith), back-snoc)

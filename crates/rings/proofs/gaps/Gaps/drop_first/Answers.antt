@@ -1,0 +1,24 @@
+-- The ring of gaps loses its first; where none is left the runs are a new ring, else they stay.
+use borrow.Author.Rules.{rules}
+use native.Mathlib.Omega.{arith}
+use mathlib.Core.Path.{◌≡◌, ◌∙◌}
+use lib.ListN.{length}
+use Rattle.rings.specs.View.{gap_list, run_list}
+use Rattle.rules.specs.Gaps.{drop_first}
+use Rattle.rings.proofs.Laws.{nil-of}
+use Rattle.rings.proofs.GapLaws.{runs-with}
+use Rattle.rings.proofs.gaps.Gaps.drop_first.Goals as goal
+
+pub returns-then-len-eq0 : goal.returns-then-len-eq0
+unfolding drop_first
+returns-then-len-eq0 c =
+    let left = gap_list c.pop_front-self.result in
+    let none : length left ≡ 0 = omega arith in
+    record { wf = search rules; is = rw (← c.pop_front-self.ensures.is, nil-of left none, c.new-self.ensures.is) }
+
+pub returns : goal.returns
+unfolding drop_first
+returns c =
+    let left = gap_list c.pop_front-self.result in
+    let runs = run_list c.args.self.overflow_received in
+    record { wf = search rules; is = rw (← c.pop_front-self.ensures.is, runs-with left runs (λ e. c.if-len-eq0.false (c.len.ensures ∙ e))) }

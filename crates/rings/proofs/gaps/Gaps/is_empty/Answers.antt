@@ -1,0 +1,8 @@
+-- No gap is missing where the list has length 0.
+use borrow.Author.Rules.{rules}
+use Rattle.rings.proofs.GapLaws.{nil-eqb}
+use Rattle.rings.specs.View.{gap_list}
+use Rattle.rings.proofs.gaps.Gaps.is_empty.Goals as goal
+
+pub returns : goal.returns
+returns c = rw c.len.ensures (nil-eqb (gap_list c.args.self.missing))

@@ -1,0 +1,14 @@
+-- The invariant: of what is left, as much goes as of the whole. The measure is how many runs are left.
+use borrow.Author.Rules.{rules}
+use mathlib.Core.Path.{◌≡◌, sym, ◌∙◌}
+use lib.ListN.{length}
+use Rattle.rules.specs.Lists.{drop_below}
+use Rattle.rings.specs.View.{RunRingWf, run_list}
+use Rattle.rings.proofs.GapLaws.{drop-none, drop-stop, drop-go, rest-less}
+use Rattle.rings.proofs.run_ring.RunRing.drop_below.Given as goal
+
+abbrev pub invariant-loop-run : goal.invariant-loop-run
+invariant-loop-run l = RunRingWf l.self × (drop_below l.seq.0 (run_list l.self) ≡ drop_below l.seq.0 (run_list l.initial.self))
+
+abbrev pub decreases-loop-run : goal.decreases-loop-run
+decreases-loop-run l = length (run_list l.self)
