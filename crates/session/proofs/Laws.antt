@@ -30,12 +30,6 @@ use Rattle.rules.specs.Names.instant
 use Rattle.rules.specs.Local.{kept_alive}
 
 -- ---- tests: what a method answered, and the branch that was taken
-pub fails : {t u : Bool} → t ≡ u → not t ≡ true → u ≡ false
-fails {t} e n = sym e ∙ not-true t n
-
-pub holds : {t u : Bool} → t ≡ u → not t ≡ false → u ≡ true
-holds {t} e n = sym e ∙ not-false t n
-
 pub is_true : {t u : Bool} → t ≡ u → t ≡ true → u ≡ true
 is_true e t = sym e ∙ t
 

@@ -1,4 +1,6 @@
 //! The session and its steps (session.rs): a file for each group of 01's port order.
+#![tactic(auto)]
+
 ghost use Rattle.std.specs.Prelude.{◌≡◌, [], ◌≤◌};
 ghost use Rattle.queue.specs.View.{queue_of, OutsWf};
 ghost use Rattle.rules.specs.Names.bound as bind;

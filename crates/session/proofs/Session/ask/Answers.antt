@@ -1,0 +1,11 @@
+-- The request goes out, and stands as outstanding with nothing delivered.
+use borrow.Author.Rules.{rules}
+use Prim.Native.Nat.{◌-◌}
+use Rattle.rules.specs.State.{saying}
+use Rattle.rules.specs.Asking.{ask}
+use Rattle.session.proofs.Laws.{said}
+use Rattle.session.proofs.Session.ask.Goals as goal
+
+pub returns : goal.returns
+unfolding ask saying
+returns c = rw (← c.at_most-count.ensures) (said _ _ _ _ _ c.send-asked.ensures.is c.stay.ensures)

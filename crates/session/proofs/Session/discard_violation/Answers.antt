@@ -1,0 +1,8 @@
+-- The violation, answered otherwise.
+use borrow.Author.Rules.{rules}
+use Prim.Native.Nat.{◌-◌}
+use Rattle.session.proofs.Laws.{answered-is}
+use Rattle.session.proofs.Session.discard_violation.Goals as goal
+
+pub returns : goal.returns
+returns c = answered-is _ _ _ _ _ c.answered.ensures c.violation-step.ensures

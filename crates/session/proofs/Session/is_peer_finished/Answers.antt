@@ -1,0 +1,13 @@
+-- It has finished or it has not.
+use borrow.Author.Rules.{rules}
+use Prim.Native.Nat.{◌-◌}
+use mathlib.Core.Path.{ap, sym}
+use Rattle.rules.specs.Names.{MaybePeerFinished}
+use Rattle.rules.specs.Numbering.{is_peer_finished}
+use Rattle.session.proofs.Session.is_peer_finished.Goals as goal
+
+pub returns-in_default : goal.returns-in_default
+returns-in_default c = ap (λ (f : MaybePeerFinished). is_peer_finished f) (sym c.in_default.is)
+
+pub returns : goal.returns
+returns c = ap (λ (f : MaybePeerFinished). is_peer_finished f) (sym c.in-Some.is)

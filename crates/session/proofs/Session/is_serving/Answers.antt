@@ -1,0 +1,13 @@
+-- There is a request or there is none.
+use borrow.Author.Rules.{rules}
+use Prim.Native.Nat.{◌-◌}
+use mathlib.Core.Path.{ap, sym}
+use Rattle.rules.specs.Names.{MaybeProvider}
+use Rattle.rules.specs.Serving.{is_serving}
+use Rattle.session.proofs.Session.is_serving.Goals as goal
+
+pub returns-in_default : goal.returns-in_default
+returns-in_default c = ap (λ (v : MaybeProvider). is_serving v) (sym c.in_default.is)
+
+pub returns : goal.returns
+returns c = ap (λ (v : MaybeProvider). is_serving v) (sym c.in-Some.is)

@@ -1,0 +1,28 @@
+-- Another session is a violation, a repetition nothing; else it is told first.
+use borrow.Author.Rules.{rules}
+use native.Mathlib.Omega.{arith}
+use Prim.Native.Nat.{◌-◌}
+use Rattle.rules.specs.Finishing.{on_finished_sending}
+use Rattle.session.proofs.Laws.{is_false, is_true, queued-length, said}
+use Rattle.session.proofs.Session.on_finished_sending.Goals as goal
+
+pub returns-then-not-same : goal.returns-then-not-same
+unfolding on_finished_sending
+returns-then-not-same c = rw (is_false c.same.ensures c.if-not-same.true) c.violation.ensures
+
+pub returns-then-is_peer_finished : goal.returns-then-is_peer_finished
+unfolding on_finished_sending
+returns-then-is_peer_finished c = rw (is_true c.same.ensures c.if-not-same.false, is_true c.is_peer_finished.ensures c.if-is_peer_finished.true) c.stay.ensures
+
+pub finished_sending-requires-clause-sess_wf : goal.finished_sending-requires-clause-sess_wf
+finished_sending-requires-clause-sess_wf c = c.requires.sess_wf
+
+pub finished_sending-requires-clause-outs_wf : goal.finished_sending-requires-clause-outs_wf
+finished_sending-requires-clause-outs_wf c = c.event-told.ensures.wf
+
+pub finished_sending-requires-clause-queue_len_bound : goal.finished_sending-requires-clause-queue_len_bound
+finished_sending-requires-clause-queue_len_bound c = omega (arith, queued-length _ _ _ c.event-told.ensures.is, c.requires.queue_len_bound)
+
+pub returns : goal.returns
+unfolding on_finished_sending
+returns c = rw (is_true c.same.ensures c.if-not-same.false, is_false c.is_peer_finished.ensures c.if-is_peer_finished.false) (said _ _ _ _ _ c.event-told.ensures.is c.finished_sending.ensures)

@@ -1,0 +1,24 @@
+-- Nothing missing: recovery is complete. Else the next gap is asked for.
+use borrow.Author.Rules.{rules}
+use native.Mathlib.Omega.{arith}
+use Prim.Native.Nat.{◌-◌}
+use Rattle.rules.specs.Asking.{recovered}
+use Rattle.session.proofs.Laws.{is_true, is_false, queued-length, said}
+use Rattle.session.proofs.Session.recovered.Goals as goal
+
+pub maybe_finish_receiving-requires-clause-sess_wf : goal.maybe_finish_receiving-requires-clause-sess_wf
+maybe_finish_receiving-requires-clause-sess_wf c = c.requires.sess_wf
+
+pub maybe_finish_receiving-requires-clause-outs_wf : goal.maybe_finish_receiving-requires-clause-outs_wf
+maybe_finish_receiving-requires-clause-outs_wf c = c.event-told.ensures.wf
+
+pub maybe_finish_receiving-requires-clause-queue_len_bound : goal.maybe_finish_receiving-requires-clause-queue_len_bound
+maybe_finish_receiving-requires-clause-queue_len_bound c = omega (arith, queued-length _ _ _ c.event-told.ensures.is, c.requires.queue_len_bound)
+
+pub returns-then-is_empty : goal.returns-then-is_empty
+unfolding recovered
+returns-then-is_empty c = rw (is_true c.is_empty.ensures c.if-is_empty.true) (said _ _ _ _ _ c.event-told.ensures.is c.maybe_finish_receiving.ensures)
+
+pub returns : goal.returns
+unfolding recovered
+returns c = rw (is_false c.is_empty.ensures c.if-is_empty.false) c.request_missing.ensures

@@ -1,0 +1,10 @@
+-- Only a deadline that is there can be due.
+use borrow.Author.Rules.{rules}
+use Prim.Native.Nat.{◌-◌}
+use mathlib.Core.Path.{ap, sym}
+use Rattle.rules.specs.Names.{MaybeInstant}
+use Rattle.rules.specs.Deadlines.{is_due}
+use Rattle.session.proofs.deadlines.is_due.Goals as goal
+
+pub returns : goal.returns
+returns c = ap (λ (d : MaybeInstant). is_due d c.args.now) (sym c.in-Some.is)
