@@ -1,7 +1,5 @@
 -- Histories that compute: one that meets every assumption and has everything in it, and one for each assumption that breaks without it.
-use Rattle.std.specs.Prelude.{◌≡◌, refl, List, [], ◌∷◌, Bool, true, false, not, ◌&&◌, ◌||◌, ℕ, zero, suc, eqb}
-use Rattle.std.proofs.Common.{sym, arith, eqb-true}
-use Rattle.types.specs.Base.{same_id, deadline_at}
+use Rattle.std.specs.Prelude.{◌≡◌, List, [], ◌∷◌, Bool, true, not, ◌&&◌, ◌||◌, ℕ, zero, suc, eqb}
 use Rattle.types.specs.Reasons.{no_text}
 use Rattle.rules.specs.Names.{SeqNum, Nanotime, Instant, SessionId, MaybeSeq, FixpConfig, PeerMessage, Gap}
 use Rattle.rules.specs.Names.seq
@@ -10,31 +8,21 @@ use Rattle.rules.specs.Names.rejection
 use Rattle.rules.specs.Names.policy
 use Rattle.rules.specs.Names.duration
 use Rattle.rules.specs.Names.peer
-use Rattle.rules.specs.State.{queued, saying, answering, and_then}
-use Rattle.rules.specs.Gaps.{gap_of, append_gap, record_gap, later_of, widen, hold_refused_gap, received_in_overflow, drop_first, consume_missing}
-use Rattle.rules.specs.Ending.{release_binding_state, fail, violation}
-use Rattle.rules.specs.Asking.{fewer, ask, request_missing, maybe_finish_receiving, recovered, complete_outstanding, in_range, on_retransmission, on_retransmit_reject}
-use Rattle.rules.specs.Numbering.{allocate_outbound, send_not_applied, gap_reported, gap_held, gap_recorded, on_gap, stop_replay, announced, on_next_seq, replay_after, count_delivered, complete_if, replayed_counted, on_replayed, number_live, on_live, on_application}
-use Rattle.rules.specs.Binding.{new_session, resume, on_established, bind}
-use Rattle.rules.specs.Peer.{on_context, on_peer}
-use Rattle.rules.specs.Calls.{World, Call, bind_call, release_call, peer_call, application_call, config_fits, sound, call, opened}
-use Rattle.loss.specs.Seen.{Taking, arrives, added, noted}
-use Rattle.loss.specs.History.{Truth, History, fresh, Happening, calls, polls, closes, drops_live, drops_tail, Kind, message, announces, heads, other, opens, ours, kind_of, ran, step, run, MayArrive, OpensTrue, Truthful, Allowed, Obeys}
-use Rattle.loss.specs.Claim.{NotRenumbered}
-use Rattle.loss.specs.Count.{no}
-use Rattle.loss.specs.Good.{and_left, and_right}
-use Rattle.loss.specs.Theorem.{loss-cannot-renumber}
+use Rattle.rules.specs.Gaps.{gap_of}
+use Rattle.rules.specs.Calls.{World, Call, bind_call, release_call, peer_call, application_call, call, opened}
+use Rattle.loss.specs.Seen.{Taking, arrives, noted}
+use Rattle.loss.specs.History.{Truth, History, Happening, calls, polls, closes, drops_live, drops_tail, Kind, message, announces, heads, other, opens, ours, kind_of, step}
 
 -- ---- a test of what is allowed
-abbrev may_arrive : ℕ → Bool → Bool
+abbrev pub may_arrive : ℕ → Bool → Bool
 may_arrive zero told = told
 may_arrive (suc k) told = true
 
-abbrev opens_true : MaybeSeq → ℕ → Bool
+abbrev pub opens_true : MaybeSeq → ℕ → Bool
 opens_true seq.None next = true
 opens_true (seq.Some n) next = eqb n.0 next
 
-abbrev truthful : Kind → Truth → Bool
+abbrev pub truthful : Kind → Truth → Bool
 truthful message p = may_arrive p.batch.left p.told
 truthful (announces n) p = eqb n p.next
 truthful (heads n k) p = true
@@ -42,49 +30,16 @@ truthful other p = true
 truthful (opens n) p = opens_true n p.next
 truthful ours p = true
 
-unfoldable allowed : History → Happening → Bool
+unfoldable pub allowed : History → Happening → Bool
 allowed h (calls c) = not (arrives c h.world) || truthful (kind_of h.world.session.id c) h.peer
 allowed h polls = true
 allowed h closes = true
 allowed h drops_live = true
 allowed h drops_tail = true
 
-unfoldable obeys : History → List Happening → Bool
+unfoldable pub obeys : History → List Happening → Bool
 obeys h [] = true
 obeys h (x ∷ xs) = allowed h x && obeys (step h x) xs
-
-may-arrive : (k : ℕ) (told : Bool) → may_arrive k told ≡ true → MayArrive k told
-may-arrive zero told e = e
-may-arrive (suc k) told e = tt
-
-opens-true : (n : MaybeSeq) (next : ℕ) → opens_true n next ≡ true → OpensTrue n next
-opens-true seq.None next e = tt
-opens-true (seq.Some n) next e = eqb-true n.0 next e
-
-truthful-is : (kind : Kind) (p : Truth) → truthful kind p ≡ true → Truthful kind p
-truthful-is message p e = may-arrive p.batch.left p.told e
-truthful-is (announces n) p e = eqb-true n p.next e
-truthful-is (heads n k) p e = tt
-truthful-is other p e = tt
-truthful-is (opens n) p e = opens-true n p.next e
-truthful-is ours p e = tt
-
-unless_not : (a b : Bool) → not a || b ≡ true → a ≡ true → b ≡ true
-unless_not true b e u = e
-unless_not false b e u = no (sym u)
-
-allowed-is : (h : History) (x : Happening) → allowed h x ≡ true → Allowed h x
-unfolding allowed Allowed
-allowed-is h (calls c) e = λ u. truthful-is (kind_of h.world.session.id c) h.peer (unless_not (arrives c h.world) _ e u)
-allowed-is h polls e = tt
-allowed-is h closes e = tt
-allowed-is h drops_live e = tt
-allowed-is h drops_tail e = tt
-
-obeys-is : (h : History) (xs : List Happening) → obeys h xs ≡ true → Obeys h xs
-unfolding obeys Obeys
-obeys-is h [] e = tt
-obeys-is h (x ∷ xs) e = (allowed-is h x (and_left (allowed h x) (obeys (step h x) xs) e), obeys-is (step h x) xs (and_right (allowed h x) (obeys (step h x) xs) e))
 
 -- ---- 01's example configuration, everything at instant 0 and stamp 7
 abbrev pub at : Instant
@@ -141,34 +96,11 @@ eventful =
     drained (calls (binds 9) ∷ calls (header 2 1) ∷ calls arrives_one ∷ calls (header 4 1) ∷ calls arrives_one ∷ calls (header 6 3) ∷ calls arrives_one ∷ calls arrives_one ∷ drops_tail ∷
     drained (calls rejects ∷ calls (sequence 9) ∷ calls arrives_one ∷ [])))
 
--- the hypotheses of the theorem can be met
-eventful-obeys : obeys (fresh self flow.Recoverable small) eventful ≡ true
-unfolding obeys allowed arrives added ran step call sound config_fits queued saying answering and_then no_text same_id deadline_at append_gap record_gap later_of widen hold_refused_gap received_in_overflow drop_first consume_missing release_binding_state fail violation fewer ask request_missing maybe_finish_receiving recovered complete_outstanding in_range on_retransmission on_retransmit_reject gap_held gap_recorded on_gap stop_replay announced on_next_seq replay_after count_delivered complete_if replayed_counted on_replayed number_live on_live on_application new_session resume on_established bind on_peer
-eventful-obeys = refl
-
 abbrev pub range : ℕ → ℕ → Gap
 range a b = gap_of (num a) (num b)
 
 abbrev pub right : ℕ → Taking
 right n = record { gave = n; took = n }
-
--- everything is accepted, but 8: its range was rejected
-pub eventful-leaves :
-    let h = run (fresh self flow.Recoverable small) eventful in
-    (h.first ≡ 1)
-    × (h.accepted ≡ right 9 ∷ right 6 ∷ right 4 ∷ right 2 ∷ right 7 ∷ right 5 ∷ right 3 ∷ right 1 ∷ [])
-    × (h.rejected ≡ range 6 9 ∷ [])
-    × (h.world.session.inbound_next ≡ seq.Some (num 10))
-    × (h.world.session.gaps.missing ≡ [])
-unfolding run arrives added ran step call sound config_fits queued saying answering and_then no_text same_id deadline_at append_gap record_gap later_of widen hold_refused_gap received_in_overflow drop_first consume_missing release_binding_state fail violation fewer ask request_missing maybe_finish_receiving recovered complete_outstanding in_range on_retransmission on_retransmit_reject gap_held gap_recorded on_gap stop_replay announced on_next_seq replay_after count_delivered complete_if replayed_counted on_replayed number_live on_live on_application new_session resume on_established bind on_peer
-eventful-leaves = (refl, refl, refl, refl, refl)
-
-pub eventful-allowed : Obeys (fresh self flow.Recoverable small) eventful
-eventful-allowed = obeys-is (fresh self flow.Recoverable small) eventful eventful-obeys
-
--- the theorem speaks of it
-pub eventful-claim : NotRenumbered (run (fresh self flow.Recoverable small) eventful)
-eventful-claim = loss-cannot-renumber self flow.Recoverable small (omega arith) eventful eventful-allowed
 
 -- ---- what each assumption is for
 -- a call, and the number that the peer gave its message (0 if it is none)
@@ -183,7 +115,7 @@ abbrev quietly : Call → Given
 quietly c = record { does = c; number = 0 }
 
 -- what is accepted when calls arrive as they are, whatever peer and link were to do
-unfoldable taken : World → List Given → List Taking → List Taking
+unfoldable pub taken : World → List Given → List Taking → List Taking
 taken w [] log = log
 taken w (x ∷ xs) log = taken (call x.does w).world xs (noted (call x.does w).answer x.number log)
 
@@ -207,55 +139,34 @@ overlong = peer_call at seven (peer.Applied (record { from_seq_no = num 1; count
 
 pub record Needed : Type 0 where
   -- "announces its next number before anything live": 2 is lost, 3 arrives
-  told_after_loss : taken new (quietly (binds 1) ∷ given arrives_one 1 ∷ given arrives_one 3 ∷ []) [] ≡ wrongly 3 2 ∷ right 1 ∷ []
+  pub told_after_loss : taken new (quietly (binds 1) ∷ given arrives_one 1 ∷ given arrives_one 3 ∷ []) [] ≡ wrongly 3 2 ∷ right 1 ∷ []
   -- the same, with a Context of 2^64-1 before 3: "a Context below 2^64-1"
-  told_by_context : taken new (quietly (binds 1) ∷ given arrives_one 1 ∷ quietly (context 18446744073709551615) ∷ given arrives_one 3 ∷ []) [] ≡ wrongly 3 2 ∷ right 1 ∷ []
+  pub told_by_context : taken new (quietly (binds 1) ∷ given arrives_one 1 ∷ quietly (context 18446744073709551615) ∷ given arrives_one 3 ∷ []) [] ≡ wrongly 3 2 ∷ right 1 ∷ []
   -- the true number: 5 is announced, 2 arrives
-  told_truly : taken new (quietly (binds 1) ∷ given arrives_one 1 ∷ quietly (sequence 5) ∷ given arrives_one 2 ∷ []) [] ≡ wrongly 2 5 ∷ right 1 ∷ []
+  pub told_truly : taken new (quietly (binds 1) ∷ given arrives_one 1 ∷ quietly (sequence 5) ∷ given arrives_one 2 ∷ []) [] ≡ wrongly 2 5 ∷ right 1 ∷ []
   -- "each binding opens with that number": 2 is lost, and 3 arrives in a binding that opened without it
-  told_by_binding : taken new (quietly (binds 1) ∷ given arrives_one 1 ∷ quietly release_call ∷ quietly (bind_call at seven 1000 1000 seq.None) ∷ given arrives_one 3 ∷ []) [] ≡ wrongly 3 2 ∷ right 1 ∷ []
+  pub told_by_binding : taken new (quietly (binds 1) ∷ given arrives_one 1 ∷ quietly release_call ∷ quietly (bind_call at seven 1000 1000 seq.None) ∷ given arrives_one 3 ∷ []) [] ≡ wrongly 3 2 ∷ right 1 ∷ []
   -- a live message behind a batch whose tail was lost, with no number before it
-  told_after_batch : taken new (two_missing (quietly (header 2 2) ∷ given arrives_one 2 ∷ given arrives_one 4 ∷ [])) [] ≡ wrongly 4 3 ∷ right 2 ∷ right 1 ∷ []
+  pub told_after_batch : taken new (two_missing (quietly (header 2 2) ∷ given arrives_one 2 ∷ given arrives_one 4 ∷ [])) [] ≡ wrongly 4 3 ∷ right 2 ∷ right 1 ∷ []
   -- "loses only its tail": 2 is lost out of the batch, 3 arrives
-  only_its_tail : taken new (two_missing (quietly (header 2 2) ∷ given arrives_one 3 ∷ [])) [] ≡ wrongly 3 2 ∷ right 1 ∷ []
+  pub only_its_tail : taken new (two_missing (quietly (header 2 2) ∷ given arrives_one 3 ∷ [])) [] ≡ wrongly 3 2 ∷ right 1 ∷ []
   -- "or all of it, header included": the header is lost, 2 arrives
-  with_its_header : taken new (two_missing (given arrives_one 2 ∷ [])) [] ≡ wrongly 2 4 ∷ right 1 ∷ []
+  pub with_its_header : taken new (two_missing (given arrives_one 2 ∷ [])) [] ≡ wrongly 2 4 ∷ right 1 ∷ []
   -- "in order": 3 before 2
-  in_order : taken new (two_missing (quietly (header 2 2) ∷ given arrives_one 3 ∷ given arrives_one 2 ∷ [])) [] ≡ wrongly 2 3 ∷ wrongly 3 2 ∷ right 1 ∷ []
+  pub in_order : taken new (two_missing (quietly (header 2 2) ∷ given arrives_one 3 ∷ given arrives_one 2 ∷ [])) [] ≡ wrongly 2 3 ∷ wrongly 3 2 ∷ right 1 ∷ []
   -- "with nothing between": a live 4 within the batch
-  nothing_between : taken new (two_missing (quietly (header 2 2) ∷ given arrives_one 4 ∷ [])) [] ≡ wrongly 4 2 ∷ right 1 ∷ []
+  pub nothing_between : taken new (two_missing (quietly (header 2 2) ∷ given arrives_one 4 ∷ [])) [] ≡ wrongly 4 2 ∷ right 1 ∷ []
   -- the same: a Sequence cuts the batch, and it goes on
-  nothing_after_cut : taken new (two_missing (quietly (header 2 2) ∷ given arrives_one 2 ∷ quietly (sequence 4) ∷ given arrives_one 3 ∷ [])) [] ≡ wrongly 3 4 ∷ right 2 ∷ right 1 ∷ []
+  pub nothing_after_cut : taken new (two_missing (quietly (header 2 2) ∷ given arrives_one 2 ∷ quietly (sequence 4) ∷ given arrives_one 3 ∷ [])) [] ≡ wrongly 3 4 ∷ right 2 ∷ right 1 ∷ []
   -- "lets none outlive its binding": 3 arrives after a reconnect
-  within_its_binding : taken new (two_missing (quietly (header 2 2) ∷ given arrives_one 2 ∷ quietly release_call ∷ quietly (binds 4) ∷ given arrives_one 3 ∷ [])) [] ≡ wrongly 3 4 ∷ right 2 ∷ right 1 ∷ []
+  pub within_its_binding : taken new (two_missing (quietly (header 2 2) ∷ given arrives_one 2 ∷ quietly release_call ∷ quietly (binds 4) ∷ given arrives_one 3 ∷ [])) [] ≡ wrongly 3 4 ∷ right 2 ∷ right 1 ∷ []
   -- "the link neither repeats": 1 arrives twice
-  no_repeat : taken new (quietly (binds 1) ∷ given arrives_one 1 ∷ given arrives_one 1 ∷ []) [] ≡ wrongly 1 2 ∷ right 1 ∷ []
+  pub no_repeat : taken new (quietly (binds 1) ∷ given arrives_one 1 ∷ given arrives_one 1 ∷ []) [] ≡ wrongly 1 2 ∷ right 1 ∷ []
   -- "nor reorders": 2 before 1
-  no_reorder : taken new (quietly (binds 1) ∷ given arrives_one 2 ∷ given arrives_one 1 ∷ []) [] ≡ wrongly 1 2 ∷ wrongly 2 1 ∷ []
+  pub no_reorder : taken new (quietly (binds 1) ∷ given arrives_one 2 ∷ given arrives_one 1 ∷ []) [] ≡ wrongly 1 2 ∷ wrongly 2 1 ∷ []
   -- "a refused [...] call counts as a message that did not arrive": 1 is refused for its reason, 2 follows with no number before it
-  refused_is_lost : taken new (quietly (binds 1) ∷ given overlong 1 ∷ given arrives_one 2 ∷ []) [] ≡ wrongly 2 1 ∷ []
+  pub refused_is_lost : taken new (quietly (binds 1) ∷ given overlong 1 ∷ given arrives_one 2 ∷ []) [] ≡ wrongly 2 1 ∷ []
   -- "a Recoverable peer": of an Idempotent one 1 and 2 are skipped, neither accepted nor rejected nor in a gap
-  recoverable :
+  pub recoverable :
       let s = (call (sequence 3) (call (binds 1) (opened self flow.Recoverable flow.Idempotent small)).world).world.session in
       (s.inbound_next ≡ seq.Some (num 3)) × (s.gaps.missing ≡ [])
-
-pub needed : Needed
-unfolding taken call sound config_fits queued saying answering and_then no_text same_id deadline_at append_gap record_gap later_of widen hold_refused_gap received_in_overflow drop_first consume_missing release_binding_state fail violation fewer ask request_missing maybe_finish_receiving recovered complete_outstanding in_range on_retransmission on_retransmit_reject gap_held gap_recorded gap_reported send_not_applied allocate_outbound on_gap stop_replay announced on_next_seq replay_after count_delivered complete_if replayed_counted on_replayed number_live on_live on_application new_session resume on_established bind on_context on_peer
-needed =
-    record {
-      told_after_loss = refl;
-      told_by_context = refl;
-      told_truly = refl;
-      told_by_binding = refl;
-      told_after_batch = refl;
-      only_its_tail = refl;
-      with_its_header = refl;
-      in_order = refl;
-      nothing_between = refl;
-      nothing_after_cut = refl;
-      within_its_binding = refl;
-      no_repeat = refl;
-      no_reorder = refl;
-      refused_is_lost = refl;
-      recoverable = (refl, refl);
-    }

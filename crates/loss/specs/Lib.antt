@@ -6,11 +6,8 @@ pub mod Chain
 pub mod Core
 pub mod Good
 pub mod Asks
-pub mod Numbers
 pub mod Arrivals
-pub mod Steps
 pub mod Holding
-pub mod Theorem
 pub mod Cases
 pub mod Slips
 pub mod Reached

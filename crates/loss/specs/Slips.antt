@@ -1,7 +1,5 @@
 -- 01's three slips, each put in the place of one step of the rules: what it does to the claims, computed.
-use Rattle.std.specs.Prelude.{◌≡◌, refl, [], ◌∷◌, false}
-use Rattle.types.specs.Base.{same_id, deadline_at}
-use Rattle.types.specs.Reasons.{no_text}
+use Rattle.std.specs.Prelude.{◌≡◌, [], ◌∷◌, false}
 use Rattle.rules.specs.Names.{MaybeOutstanding, MaybeReplay}
 use Rattle.rules.specs.Names.seq
 use Rattle.rules.specs.Names.flow
@@ -11,16 +9,12 @@ use Rattle.rules.specs.Names.replay
 use Rattle.rules.specs.Names.answer
 use Rattle.rules.specs.Names.delivery
 use Rattle.rules.specs.Names.refusal
-use Rattle.rules.specs.State.{Sess, with_outstanding, with_replay, with_awaiting, with_provider, with_gaps, queued, saying, answering, and_then}
-use Rattle.rules.specs.Gaps.{append_gap, record_gap, later_of, widen, hold_refused_gap, received_in_overflow, drop_first, consume_missing}
-use Rattle.rules.specs.Ending.{consumed, release_binding_state, fail, violation}
-use Rattle.rules.specs.Asking.{fewer, ask, request_missing, maybe_finish_receiving, recovered, complete_outstanding, in_range, on_retransmission}
-use Rattle.rules.specs.Numbering.{gap_held, gap_recorded, on_gap, stop_replay, announced, on_next_seq, replay_after, count_delivered, complete_if, replayed_counted, on_replayed, number_live, on_live, on_application, accept_live, accept_replayed}
-use Rattle.rules.specs.Binding.{new_session, resume, on_established, bind}
-use Rattle.rules.specs.Peer.{on_peer}
-use Rattle.rules.specs.Calls.{World, world, release_call, config_fits, sound, call}
-use Rattle.loss.specs.Seen.{arrives, added}
-use Rattle.loss.specs.History.{History, fresh, calls, drops_live, ran, step, run}
+use Rattle.rules.specs.State.{Sess, with_outstanding, with_replay, with_awaiting, with_provider, with_gaps}
+use Rattle.rules.specs.Gaps.{received_in_overflow}
+use Rattle.rules.specs.Ending.{consumed}
+use Rattle.rules.specs.Numbering.{replay_after, accept_live, accept_replayed}
+use Rattle.rules.specs.Calls.{World, world, release_call, call}
+use Rattle.loss.specs.History.{History, fresh, calls, drops_live, run}
 use Rattle.loss.specs.Cases.{num, self, small, range, right, binds, sequence, header, arrives_one, drained}
 
 -- a session in the place of another
@@ -62,38 +56,26 @@ after_one = run (fresh self flow.Recoverable small) (calls (binds 1) ∷ calls a
 
 pub record Slips : Type 0 where
   -- 3 is below the expected 4, and neither accepted, rejected nor in a gap
-  release_all :
+  pub release_all :
       (half_replayed.accepted ≡ right 2 ∷ right 1 ∷ [])
       × (half_replayed.rejected ≡ [])
       × ((released_wholly half_replayed.world.session).inbound_next ≡ seq.Some (num 4))
       × ((released_wholly half_replayed.world.session).gaps.missing ≡ [])
   -- as it should be: 3 is still missing
-  release_right : (call release_call half_replayed.world).world.session.gaps.missing ≡ range 3 4 ∷ []
+  pub release_right : (call release_call half_replayed.world).world.session.gaps.missing ≡ range 3 4 ∷ []
   -- 8 is accepted, and after a release still in a gap and in no run: accepted and pending both
-  skip_duplicate :
+  pub skip_duplicate :
       ((call arrives_one uncounted).answer ≡ accept_replayed (num 8))
       × ((call release_call (call arrives_one uncounted).world).world.session.gaps.missing ≡ range 8 9 ∷ [])
       × ((call release_call (call arrives_one uncounted).world).world.session.gaps.overflow_received ≡ [])
   -- as it should be: 7 is discarded, 8 accepted, and nothing is missing
-  duplicate_right :
+  pub duplicate_right :
       let w = call arrives_one before_duplicate.world in
       (w.answer ≡ answer.Delivered delivery.Discard)
       × ((call arrives_one w.world).answer ≡ accept_replayed (num 8))
       × ((call arrives_one w.world).world.session.gaps.missing ≡ [])
   -- a message that the peer gave 2^64-1 is taken for 2; a peer that gives no message that number, as 11 has it of this side, is taken
   -- right all the same, and then demand 2 alone sees the slip
-  null_sequence : (call arrives_one after_one.world).answer ≡ accept_live (seq.Some (num 2))
+  pub null_sequence : (call arrives_one after_one.world).answer ≡ accept_live (seq.Some (num 2))
   -- as it should be: the announcement is longer than a gap may be, and ends the binding
-  sequence_right : (call arrives_one (call (sequence 18446744073709551615) after_one.world).world).answer ≡ answer.Refused refusal.NotBound
-
-pub slips : Slips
-unfolding run arrives added ran step call sound config_fits queued saying answering and_then no_text same_id deadline_at append_gap record_gap later_of widen hold_refused_gap received_in_overflow drop_first consume_missing release_binding_state fail violation fewer ask request_missing maybe_finish_receiving recovered complete_outstanding in_range on_retransmission gap_held gap_recorded on_gap stop_replay announced on_next_seq replay_after count_delivered complete_if replayed_counted on_replayed number_live on_live on_application new_session resume on_established bind on_peer
-slips =
-    record {
-      release_all = (refl, refl, refl, refl);
-      release_right = refl;
-      skip_duplicate = (refl, refl, refl);
-      duplicate_right = (refl, refl, refl);
-      null_sequence = refl;
-      sequence_right = refl;
-    }
+  pub sequence_right : (call arrives_one (call (sequence 18446744073709551615) after_one.world).world).answer ≡ answer.Refused refusal.NotBound

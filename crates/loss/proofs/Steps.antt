@@ -33,10 +33,11 @@ use Rattle.rules.specs.Local as local
 use Rattle.rules.specs.Deadlines.{silence_deadline, stall_deadline, heartbeat_deadline, is_due, heartbeat, heartbeat_if_due, reported, wait_out, stall_by, on_stall, stall_of, stall_if_due, established_timeout, timeout_in, on_timeout}
 use Rattle.loss.specs.Seen as seen
 use Rattle.loss.specs.Seen.{Taking}
-use Rattle.loss.specs.Count.{by-test, no}
-use Rattle.loss.specs.Good.{IsRecoverable, NoReplay, Good, Keeps, saying-keeps, and_then-keeps}
-use Rattle.loss.specs.Asks.{did-keeps, stays-keeps, ends-keeps, release-good, ended-good, ended-holds, fail-keeps, violation-keeps, request-keeps, maybe_finish-keeps, re_request-keeps}
-use Rattle.loss.specs.Numbers.{first_by, good-first, next-keeps}
+use Rattle.loss.proofs.Count.{by-test, no}
+use Rattle.loss.specs.Good.{IsRecoverable, NoReplay, Good, Keeps}
+use Rattle.loss.proofs.Good.{saying-keeps, and_then-keeps}
+use Rattle.loss.proofs.Asks.{did-keeps, stays-keeps, ends-keeps, release-good, ended-good, ended-holds, fail-keeps, violation-keeps, request-keeps, maybe_finish-keeps, re_request-keeps}
+use Rattle.loss.proofs.Numbers.{first_by, good-first, next-keeps}
 
 pub recoverable-sequenced : (p : FlowType) → IsRecoverable p → is_sequenced p ≡ true
 recoverable-sequenced flow.Recoverable h = refl

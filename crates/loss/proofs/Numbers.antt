@@ -20,11 +20,14 @@ use Rattle.rules.specs.Outputs.{event}
 use Rattle.rules.specs.Gaps.{max_runs, gap_of, lists, Kept, kept, append_gap, record_at, record_gap, later_of, widen, hold_at, hold_refused_gap}
 use Rattle.rules.specs.Numbering.{gap_held, gap_recorded, gap_on, on_gap, past_finished, cut_off, stop_at, stop_replay, announced_to, announced, on_next_seq, is_peer_finished}
 use Rattle.loss.specs.Seen.{Taking, number, first_after}
-use Rattle.loss.specs.Count.{by-test}
-use Rattle.loss.specs.Chain.{last_of, last_end, reaching, back_is}
-use Rattle.loss.specs.Core.{asked_of, AtFront, Core, core-append, core-extend, core-widen, core-start, apart}
-use Rattle.loss.specs.Good.{IsRecoverable, StartFits, Good, Keeps, saying-keeps}
-use Rattle.loss.specs.Asks.{stays-keeps, violation-keeps, request-keeps}
+use Rattle.loss.proofs.Count.{by-test}
+use Rattle.loss.specs.Chain.{last_of, last_end, reaching}
+use Rattle.loss.proofs.Chain.{back_is}
+use Rattle.loss.specs.Core.{asked_of, AtFront, Core}
+use Rattle.loss.proofs.Core.{core-append, core-extend, core-widen, core-start, apart}
+use Rattle.loss.specs.Good.{IsRecoverable, StartFits, Good, Keeps}
+use Rattle.loss.proofs.Good.{saying-keeps}
+use Rattle.loss.proofs.Asks.{stays-keeps, violation-keeps, request-keeps}
 
 -- ---- a gap, once the start is settled
 later : (a b : SeqNum) → a.0 < b.0 → later_of a b ≡ b

@@ -8,10 +8,12 @@ use Rattle.rules.specs.Binding.{new_session}
 use Rattle.loss.specs.Seen.{Taking, number}
 use Rattle.loss.specs.History.{History, fresh, Happening, run, Obeys}
 use Rattle.loss.specs.Claim.{Holds, Took, Delivered, Before, AsGiven, NoneTwice, Accepted, Abandoned, Pending, ExactlyOne, one, two, three, Claim}
-use Rattle.loss.specs.Count.{hit, hits, hit-in, hit-none, Place, place, below, inside, above}
+use Rattle.loss.specs.Count.{hit, hits, Place, below, inside, above}
+use Rattle.loss.proofs.Count.{hit-in, hit-none, place}
 use Rattle.loss.specs.Chain.{Chain, last_end}
 use Rattle.loss.specs.Core.{asked_of, times, delivered, AtFront, AllBelow, Each, outside, accepted, abandoned, pending}
-use Rattle.loss.specs.Holding.{Invariant, run_holds}
+use Rattle.loss.specs.Holding.{Invariant}
+use Rattle.loss.proofs.Holding.{run_holds}
 
 -- ---- counts and membership
 pub hits-holds : (n : ℕ) (gs : List Gap) → 1 ≤ hits n gs → Holds n gs

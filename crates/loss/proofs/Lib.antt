@@ -1,0 +1,15 @@
+pub mod Count
+pub mod Chain
+pub mod Core
+pub mod Good
+pub mod Asks
+pub mod Numbers
+pub mod Arrivals
+pub mod Steps
+pub mod Holding
+pub mod Theorem
+pub mod Cases
+pub mod Slips
+pub mod Reached
+pub mod Tidy
+pub mod Anyhow
