@@ -1,5 +1,5 @@
 -- The invariant of a session with a Recoverable peer, and what it means that a step keeps it.
-use Rattle.std.specs.Prelude.{◌≡◌, refl, List, [], ◌∷◌, ◌++◌, Bool, true, false, ◌&&◌, ℕ, ◌+◌}
+use Rattle.std.specs.Prelude.{◌≡◌, refl, List, [], ◌∷◌, ◌++◌, Bool, true, false, ◌&&◌, ℕ}
 use Rattle.std.proofs.Common.{sym, ap, ◌∙◌, append_assoc}
 use Rattle.types.specs.Base.{if◌then◌else◌}
 use Rattle.types.specs.States.{is_stay}

@@ -11,7 +11,7 @@ use Rattle.rules.specs.State.{Sess, Queue, with_outstanding, with_replay}
 use Rattle.rules.specs.Gaps.{lists, consume_missing}
 use Rattle.rules.specs.Numbering.{Counted, counted_at, is_peer_finished}
 use Rattle.rules.specs.Local.{Refused, passes, refuses}
-use Rattle.rules.specs.Calls.{World, world, Call, call, opened, reading, polled, transport_closed}
+use Rattle.rules.specs.Calls.{World, Call, call, opened, reading, polled, transport_closed}
 use Rattle.loss.specs.Seen.{Taking, number}
 use Rattle.loss.specs.History.{truth, History, calls, Kind, message, announces, heads, other, opens, ours, kind_of, ran, step, MayArrive, OpensTrue, Truthful, Allowed}
 use Rattle.loss.specs.Claim.{Holds, Took, Delivered}
@@ -19,7 +19,7 @@ use Rattle.loss.specs.Count.{hit, hits, Place, below, inside, above}
 use Rattle.loss.proofs.Count.{by-test, place}
 use Rattle.loss.specs.Chain.{Chain}
 use Rattle.loss.proofs.Chain.{eat}
-use Rattle.loss.specs.Core.{Asked, idle, asking, asked_of, delivered, AtFront, Each, outside, accepted, abandoned, pending}
+use Rattle.loss.specs.Core.{Asked, idle, asking, asked_of, AtFront, Each, outside, accepted, abandoned, pending}
 use Rattle.loss.proofs.Core.{out-in}
 use Rattle.loss.specs.Good.{ReplayFits, Good}
 use Rattle.loss.specs.Holding.{Flies, Knows}

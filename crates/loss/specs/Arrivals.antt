@@ -1,5 +1,5 @@
 -- An application message, live or of a batch, keeps the invariant; what is accepted is noted once, as the peer gave it.
-use Rattle.std.specs.Prelude.{Bool, ℕ, ◌+◌, ◌-◌}
+use Rattle.std.specs.Prelude.{Bool, ℕ}
 use mathlib.Core.List.{List, ◌++◌}
 use Rattle.rules.specs.Names.{MaybeSeq, Gap, MaybeReplay}
 use Rattle.rules.specs.State.{Did}

@@ -1,5 +1,5 @@
 -- Ending, asking and recovery keep the invariant: what leaves a gap was delivered, or is reported as rejected.
-use Rattle.std.specs.Prelude.{◌≡◌, Bool, false, ℕ, ◌+◌, ◌-◌, ◌≤◌}
+use Rattle.std.specs.Prelude.{◌≡◌, Bool, false, ℕ, ◌≤◌}
 use mathlib.Core.List.{List, ◌++◌}
 use Rattle.rules.specs.Names.{MaybeSeq, Gap, MaybeReplay}
 use Rattle.rules.specs.State.{Did}

@@ -7,7 +7,6 @@ use Rattle.rules.specs.Names.{MaybeSeq, MaybeReplay}
 use Rattle.rules.specs.Names.replay
 use Rattle.rules.specs.State.{Did}
 use Rattle.rules.specs.Numbering.{is_peer_finished}
-use Rattle.rules.specs.Calls.{world}
 use Rattle.loss.specs.Seen.{number}
 use Rattle.loss.specs.History.{Truth, History, Kind, given_as, after}
 use Rattle.loss.specs.Claim.{AsGiven}

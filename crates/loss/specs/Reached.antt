@@ -1,6 +1,6 @@
 -- What holds of every session reached from new by any calls at all, with a Recoverable peer that need not be truthful: a single call is
 -- always one that some truthful peer could have made.
-use Rattle.std.specs.Prelude.{List, [], ◌∷◌, Bool, true, false, ℕ, ◌-◌}
+use Rattle.std.specs.Prelude.{List, [], ◌∷◌, Bool, true, false, ℕ}
 use Rattle.rules.specs.Names.{Gap, MaybeReplay}
 use Rattle.rules.specs.Names.replay
 use Rattle.rules.specs.State.{Sess, Queue}

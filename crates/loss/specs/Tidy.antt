@@ -1,6 +1,6 @@
 -- Every session reached from new is a sound record, and a sequenced peer always has an expected number: each step queues at most 6
 -- outputs with reasons that fit, and no list outgrows its room. Any flows, any calls.
-use Rattle.std.specs.Prelude.{◌≡◌, List, true, ℕ, ◌-◌, ◌≤◌, length}
+use Rattle.std.specs.Prelude.{◌≡◌, List, true, ℕ, ◌≤◌, length}
 use Rattle.types.specs.Flows.{is_sequenced}
 use Rattle.types.specs.Reasons.{reason_fits}
 use Rattle.rules.specs.Names.{MaybeSeq, FlowType, FixpConfig, Gap, MaybeGap}
