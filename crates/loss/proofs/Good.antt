@@ -1,4 +1,4 @@
--- The invariant of a session with a Recoverable peer, and what it means that a step keeps it.
+-- What steps that keep the invariant of a session report, and one step after another.
 use Rattle.std.specs.Prelude.{◌≡◌, refl, List, [], ◌∷◌, ◌++◌, Bool, true, false, ◌&&◌, ℕ}
 use Rattle.std.proofs.Common.{sym, ap, ◌∙◌, append_assoc}
 use Rattle.types.specs.Base.{if◌then◌else◌}

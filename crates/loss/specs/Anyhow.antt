@@ -1,5 +1,4 @@
--- Claims 2 and 3 hold whatever peer and link do: they speak of the numbers that were taken, and any one call is one that some truthful
--- peer could have made, if the messages before it were given as they were taken.
+-- Histories whose messages were given as they were taken. Claims 2 and 3, whatever peer and link do, are in proofs/Anyhow.
 use Rattle.std.specs.Prelude.{List, [], ◌∷◌}
 use Rattle.loss.specs.Seen.{Taking}
 use Rattle.loss.specs.History.{History}

@@ -1,6 +1,5 @@
--- An application message, live or of a batch, keeps the invariant; what is accepted is noted once, as the peer gave it.
-use Rattle.std.specs.Prelude.{Bool, ℕ}
-use mathlib.Core.List.{List, ◌++◌}
+-- What a call leaves that may accept a message. That an application message keeps the invariant is in proofs/Arrivals.
+use Rattle.std.specs.Prelude.{Bool, ℕ, List, ◌++◌}
 use Rattle.rules.specs.Names.{MaybeSeq, Gap, MaybeReplay}
 use Rattle.rules.specs.State.{Did}
 use Rattle.rules.specs.Numbering.{is_peer_finished}

@@ -1,6 +1,5 @@
--- Ending, asking and recovery keep the invariant: what leaves a gap was delivered, or is reported as rejected.
-use Rattle.std.specs.Prelude.{◌≡◌, Bool, false, ℕ, ◌≤◌}
-use mathlib.Core.List.{List, ◌++◌}
+-- What a step leaves that may report a rejection. That ending, asking and recovery keep the invariant is in proofs/Asks.
+use Rattle.std.specs.Prelude.{◌≡◌, Bool, false, ℕ, ◌≤◌, List, ◌++◌}
 use Rattle.rules.specs.Names.{MaybeSeq, Gap, MaybeReplay}
 use Rattle.rules.specs.State.{Did}
 use Rattle.rules.specs.Numbering.{is_peer_finished}

@@ -1,4 +1,4 @@
--- Ranges that are not empty, ascend and never touch, and what the rules' list operations do to them.
+-- Ranges that are not empty, ascend and never touch. What the rules' list operations do to them is in proofs/Chain.
 use Rattle.std.specs.Prelude.{◌≡◌, List, [], ◌∷◌, Bool, ℕ, ◌+◌, ◌<◌, ◌≤◌}
 use Rattle.rules.specs.Names.{SeqNum, Gap}
 use Rattle.rules.specs.Lists.{front_of, set_back, drop_below}

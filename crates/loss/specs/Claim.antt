@@ -1,4 +1,4 @@
--- Demand 3: loss can't renumber. What is claimed of a history; `Theorem.loss-cannot-renumber` is the proof.
+-- Demand 3: loss can't renumber. What is claimed of a history; `loss-cannot-renumber` in proofs/Theorem is the proof.
 use Rattle.std.specs.Prelude.{ℕ, ◌+◌, ◌<◌, ◌≤◌, ◌^◌, ◌≡◌, List, [], ◌∷◌, ◌⊎◌}
 use Rattle.rules.specs.Names.{SessionId, MaybeSeq, FlowType, FixpConfig, Gap, MaybeOutstanding}
 use Rattle.rules.specs.Names.seq

@@ -1,4 +1,4 @@
--- What holds of the numbers, over the parts of a session and its history, and each way in which it changes.
+-- What holds of the numbers, over the parts of a session and its history. Each way in which it changes is in proofs/Core.
 use Rattle.std.specs.Prelude.{◌≡◌, List, [], ◌∷◌, ℕ, ◌+◌, ◌≤◌}
 use Rattle.rules.specs.Names.{SeqNum, Gap, MaybeOutstanding}
 use Rattle.rules.specs.Names.outstanding

@@ -1,8 +1,6 @@
--- The invariant of a history, and that everything that happens keeps it: a live message finds its own number expected, and a message of
--- a batch finds that batch replayed.
-use Rattle.std.specs.Prelude.{◌≡◌, Bool, not}
-use Rattle.std.proofs.Math.Bool.{true, false}
-use Prim.Native.Nat.{ℕ, zero, suc}
+-- The invariant of a history: a live message finds its own number expected, and a message of a batch finds that batch replayed. That
+-- everything that happens keeps it is in proofs/Holding.
+use Rattle.std.specs.Prelude.{◌≡◌, Bool, true, false, not, ℕ, zero, suc}
 use Rattle.rules.specs.Names.{MaybeSeq, MaybeReplay}
 use Rattle.rules.specs.Names.replay
 use Rattle.rules.specs.State.{Did}

@@ -1,5 +1,5 @@
--- What holds of every session reached from new by any calls at all, with a Recoverable peer that need not be truthful: a single call is
--- always one that some truthful peer could have made.
+-- Sessions reached from new by any calls at all, with a Recoverable peer that need not be truthful, and the truthful peer that could have
+-- made a single call. What holds of them is in proofs/Reached.
 use Rattle.std.specs.Prelude.{List, [], ◌∷◌, Bool, true, false, ℕ}
 use Rattle.rules.specs.Names.{Gap, MaybeReplay}
 use Rattle.rules.specs.Names.replay

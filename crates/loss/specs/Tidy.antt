@@ -1,5 +1,5 @@
--- Every session reached from new is a sound record, and a sequenced peer always has an expected number: each step queues at most 6
--- outputs with reasons that fit, and no list outgrows its room. Any flows, any calls.
+-- Sessions whose lists have room, and steps that leave such a session and few outputs. That every session reached from new is such a one
+-- is in proofs/Tidy.
 use Rattle.std.specs.Prelude.{◌≡◌, List, true, ℕ, ◌≤◌, length}
 use Rattle.types.specs.Flows.{is_sequenced}
 use Rattle.types.specs.Reasons.{reason_fits}

@@ -1,5 +1,5 @@
 -- The queue as the list that it stands for, with its closing flag.
-use Rattle.std.specs.Prelude.{ℕ, ◌<◌, ◌≤◌, ◌≡◌, Bool, true, false, ◌&&◌, List, [], ◌∷◌, ltb, leb}
+use Rattle.std.specs.Prelude.{◌<◌, ◌≤◌, ◌≡◌, Bool, true, false, ◌&&◌, List, [], ◌∷◌, ltb, leb}
 use Rattle.rings.specs.Ring.{ring_list}
 use Rattle.rules.specs.Names.{Output}
 use Rattle.rules.specs.State.{Queue}

@@ -1,6 +1,6 @@
 -- 01's numbers and values for each case of an answer.
-use Rattle.std.specs.Prelude.{ℕ, Bool, true, false, List, [], ◌∷◌, ◌++◌}
-use Rattle.rules.specs.Names.{MaybeSeq, SessionStatus, Operation, Refusal, Delivery, Answer}
+use Rattle.std.specs.Prelude.{ℕ, Bool, true, false, List, [], ◌∷◌}
+use Rattle.rules.specs.Names.{MaybeSeq, SessionStatus, Operation, Refusal, Answer}
 use Rattle.rules.specs.Names.seq
 use Rattle.rules.specs.Names.status
 use Rattle.rules.specs.Names.operation

@@ -1,9 +1,9 @@
 -- 01, "Asking": what is missing is asked for, one request at a time (FIXP 4.6).
-use Rattle.std.specs.Prelude.{ℕ, ◌+◌, ◌-◌, Bool, true, false, not, ◌&&◌, ◌||◌, List, [], ◌∷◌, ltb, leb, eqb}
+use Rattle.std.specs.Prelude.{ℕ, ◌+◌, ◌-◌, Bool, true, false, not, ◌&&◌, ◌||◌, [], ◌∷◌, leb, eqb}
 use Rattle.types.specs.Base.{if◌then◌else◌, all_ones, same_id}
 use Rattle.types.specs.Flows.{is_recoverable}
 use Rattle.types.specs.States.{is_established, leave_sequence}
-use Rattle.rules.specs.Names.{SeqNum, Nanotime, Instant, Reason, Retransmission, RetransmitReject, Binding, Gap, MaybeGap, Outstanding, MaybeOutstanding, PeerFinished, MaybePeerFinished}
+use Rattle.rules.specs.Names.{SeqNum, Nanotime, Instant, Reason, Retransmission, RetransmitReject, Binding, Gap, MaybeGap, Outstanding, MaybeOutstanding, MaybePeerFinished}
 use Rattle.rules.specs.Names.code
 use Rattle.rules.specs.Names.name
 use Rattle.rules.specs.Names.message

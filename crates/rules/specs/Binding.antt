@@ -1,5 +1,5 @@
 -- A new session, and binding it to a transport (FIXP 4.3).
-use Rattle.std.specs.Prelude.{ℕ, Bool, true, false, not, List, [], ◌∷◌}
+use Rattle.std.specs.Prelude.{ℕ, false, []}
 use Rattle.types.specs.Base.{if◌then◌else◌}
 use Rattle.types.specs.Flows.{is_sequenced}
 use Rattle.types.specs.States.{binding}

@@ -1,8 +1,7 @@
 -- The calls: what each is refused for, in the order of 01's table, and what it does where nothing refuses it.
 use Rattle.std.specs.Prelude.{ℕ, ◌+◌, Bool, true, false, not, ◌&&◌, List, [], ◌∷◌, length, leb, eqb}
-use Rattle.types.specs.Base.{if◌then◌else◌}
 use Rattle.types.specs.Reasons.{no_text, reason_fits}
-use Rattle.rules.specs.Names.{SessionId, Nanotime, Instant, MaybeSeq, MaybeInstant, FlowType, TerminationCode, RetransmitRejectCode, FixpConfig, Reason, PeerMessage, Output, Bound, Binding, MaybeBinding, Link, Refusal, Answer}
+use Rattle.rules.specs.Names.{SessionId, Nanotime, Instant, MaybeSeq, MaybeInstant, FlowType, TerminationCode, RetransmitRejectCode, FixpConfig, Reason, PeerMessage, Output, Bound, Binding, MaybeBinding, Link, Answer}
 use Rattle.rules.specs.Names.bound
 use Rattle.rules.specs.Names.linked
 use Rattle.rules.specs.Names.instant

@@ -1,5 +1,5 @@
 -- 01, "Timeout": silence, then stall, then heartbeat; at the deadline counts as due (FIXP 4.4 and 4.5).
-use Rattle.std.specs.Prelude.{ℕ, ◌+◌, Bool, true, false, not, ◌||◌, List, [], ◌∷◌, leb}
+use Rattle.std.specs.Prelude.{ℕ, ◌+◌, Bool, true, false, ◌||◌, [], ◌∷◌, leb}
 use Rattle.types.specs.Base.{if◌then◌else◌, deadline_at}
 use Rattle.types.specs.Flows.{is_sequenced}
 use Rattle.types.specs.States.{with_keepalive, with_in_sequence}

@@ -1,9 +1,9 @@
 -- How a binding ends: what it leaves, a failure, a violation, and the peer's Terminate (FIXP 4.4 and 6.3).
-use Rattle.std.specs.Prelude.{ℕ, ◌+◌, Bool, true, false, not, ◌&&◌, List, [], ◌∷◌}
+use Rattle.std.specs.Prelude.{ℕ, ◌+◌, Bool, true, false, not, ◌&&◌, [], ◌∷◌}
 use Rattle.types.specs.Base.{if◌then◌else◌, same_id, deadline_at}
 use Rattle.types.specs.Flows.{is_finished}
 use Rattle.types.specs.States.{is_established, with_state}
-use Rattle.rules.specs.Names.{Instant, TerminationCode, Reason, Terminate, BindState, Binding, Outstanding, MaybeOutstanding, PeerFinished, MaybePeerFinished}
+use Rattle.rules.specs.Names.{Instant, TerminationCode, Reason, Terminate, BindState, Binding, MaybeOutstanding, MaybePeerFinished}
 use Rattle.rules.specs.Names.code
 use Rattle.rules.specs.Names.message
 use Rattle.rules.specs.Names.event as ev

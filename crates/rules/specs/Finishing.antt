@@ -1,8 +1,8 @@
 -- The peer's flow ends (FIXP 4.7).
-use Rattle.std.specs.Prelude.{ℕ, ◌+◌, Bool, true, false, not, List, [], ◌∷◌, ltb, eqb}
+use Rattle.std.specs.Prelude.{ℕ, ◌+◌, Bool, false, not, [], ◌∷◌, ltb, eqb}
 use Rattle.types.specs.Base.{if◌then◌else◌, all_ones, same_id}
 use Rattle.types.specs.Flows.{is_sequenced}
-use Rattle.rules.specs.Names.{SeqNum, Nanotime, Instant, MaybeSeq, FinishedSending, Binding}
+use Rattle.rules.specs.Names.{Nanotime, Instant, MaybeSeq, FinishedSending, Binding}
 use Rattle.rules.specs.Names.event as ev
 use Rattle.rules.specs.Names.finished
 use Rattle.rules.specs.Names.seq

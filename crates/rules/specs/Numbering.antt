@@ -1,9 +1,9 @@
 -- 01, "Expected number" and "Gaps": an announced number, a gap, an application message (FIXP 3.5, 4.6, 4.8).
-use Rattle.std.specs.Prelude.{ℕ, ◌+◌, ◌-◌, ◌^◌, Bool, true, false, not, ◌&&◌, ◌||◌, List, [], ◌∷◌, ltb, leb, eqb}
+use Rattle.std.specs.Prelude.{ℕ, ◌+◌, ◌-◌, ◌^◌, Bool, true, false, not, [], ◌∷◌, ltb, leb, eqb}
 use Rattle.types.specs.Base.{if◌then◌else◌, all_ones}
 use Rattle.types.specs.Flows.{is_sequenced}
 use Rattle.types.specs.States.{is_established, is_closing, with_received, with_keepalive, with_in_sequence}
-use Rattle.rules.specs.Names.{SeqNum, Nanotime, Instant, MaybeSeq, FlowType, Output, NotApplied, Answer, Binding, Outstanding, MaybeOutstanding, PeerFinished, MaybePeerFinished, Replay, MaybeReplay}
+use Rattle.rules.specs.Names.{SeqNum, Nanotime, Instant, MaybeSeq, FlowType, Output, NotApplied, Answer, Binding, Outstanding, MaybeOutstanding, MaybePeerFinished, Replay, MaybeReplay}
 use Rattle.rules.specs.Names.code
 use Rattle.rules.specs.Names.flow
 use Rattle.rules.specs.Names.name

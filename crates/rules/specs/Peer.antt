@@ -1,10 +1,10 @@
 -- A session message of the peer, by its kind.
-use Rattle.std.specs.Prelude.{Bool, true, false, not, ◌||◌, List, [], ◌∷◌, ◌++◌, eqb}
+use Rattle.std.specs.Prelude.{Bool, true, false, not, [], ◌∷◌, ◌++◌, eqb}
 use Rattle.types.specs.Base.{if◌then◌else◌, all_ones, same_id}
 use Rattle.types.specs.Flows.{is_sequenced, is_idempotent}
 use Rattle.types.specs.States.{is_closing, with_received}
 use Rattle.types.specs.Messages.{name_of}
-use Rattle.rules.specs.Names.{Nanotime, Instant, Reason, Context, Event, PeerMessage, Delivery, Answer, Binding}
+use Rattle.rules.specs.Names.{Nanotime, Instant, Reason, Context, Event, PeerMessage, Answer, Binding}
 use Rattle.rules.specs.Names.peer
 use Rattle.rules.specs.Names.event as ev
 use Rattle.rules.specs.Names.bound

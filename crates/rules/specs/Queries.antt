@@ -1,8 +1,8 @@
 -- What a session is asked and does not change for.
-use Rattle.std.specs.Prelude.{Bool, true, false, not, ◌&&◌, ltb}
+use Rattle.std.specs.Prelude.{Bool, false, not, ◌&&◌, ltb}
 use Rattle.types.specs.Base.{if◌then◌else◌}
 use Rattle.types.specs.Flows.{is_sequenced}
-use Rattle.rules.specs.Names.{SeqNum, MaybeSeq}
+use Rattle.rules.specs.Names.{MaybeSeq}
 use Rattle.rules.specs.Names.seq
 use Rattle.rules.specs.Lists.{is_nil}
 use Rattle.rules.specs.State.{Sess}

@@ -1,5 +1,5 @@
 -- 01, "Serving": a peer's RetransmitRequest (FIXP 4.6.1 to 4.6.4).
-use Rattle.std.specs.Prelude.{ℕ, ◌+◌, Bool, true, false, not, ◌&&◌, List, [], ◌∷◌, ltb, leb, eqb}
+use Rattle.std.specs.Prelude.{ℕ, ◌+◌, Bool, true, false, not, ◌&&◌, [], ◌∷◌, ltb, leb, eqb}
 use Rattle.types.specs.Base.{if◌then◌else◌, same_id}
 use Rattle.types.specs.Flows.{is_recoverable}
 use Rattle.types.specs.States.{is_established, leave_sequence}

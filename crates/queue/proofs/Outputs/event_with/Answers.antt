@@ -1,5 +1,4 @@
 -- A plain output has no bytes beside it.
-use borrow.Author.Rules.{rules}
 use Rattle.queue.proofs.Outputs.event_with.Goals as goal
 
 pub returns : goal.returns

@@ -1,7 +1,7 @@
 -- The place after the last takes the output, and the flag is set where it asks for that.
 use borrow.Author.Rules.{rules}
 use native.Mathlib.Omega.{arith}
-use mathlib.Core.Path.{◌≡◌, refl, sym, ap, ◌∙◌}
+use mathlib.Core.Path.{◌≡◌, sym, ap, ◌∙◌}
 use mathlib.Core.Bool.{Bool, false, ◌||◌}
 use native.Mathlib.Numerals.{add-one}
 use lib.ListN.{length}

@@ -1,7 +1,5 @@
 -- The tests in the order of the rule.
-use borrow.Author.Rules.{rules}
 use borrow.Author.Tests.{lt-ltb, le-ltb, le-leb, lt-leb}
-use mathlib.Core.Bool.{true, false}
 use Rattle.queue.proofs.Outputs.sound.Goals as goal
 
 pub returns-then-self-ge-MAX_OUTPUTS : goal.returns-then-self-ge-MAX_OUTPUTS

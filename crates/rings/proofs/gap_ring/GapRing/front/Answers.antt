@@ -1,5 +1,4 @@
 -- With a count of 0 the list is empty; else the place head holds its first element.
-use borrow.Author.Rules.{rules}
 use native.Mathlib.Omega.{arith}
 use Rattle.rules.specs.Gaps.{max_gaps}
 use Rattle.rings.specs.View.{gap_list, no_gap}

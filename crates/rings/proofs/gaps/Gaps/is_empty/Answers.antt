@@ -1,5 +1,4 @@
 -- No gap is missing where the list has length 0.
-use borrow.Author.Rules.{rules}
 use Rattle.rings.proofs.GapLaws.{nil-eqb}
 use Rattle.rings.specs.View.{gap_list}
 use Rattle.rings.proofs.gaps.Gaps.is_empty.Goals as goal

@@ -1,6 +1,4 @@
 -- Both rings are asked, as in the rule.
-use borrow.Author.Rules.{rules}
-use borrow.Author.Tests.{not-true, not-false}
 use Rattle.rings.specs.View.{sound_gaps}
 use Rattle.rings.proofs.gaps.Gaps.sound.Goals as goal
 

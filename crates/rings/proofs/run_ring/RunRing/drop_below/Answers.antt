@@ -1,9 +1,6 @@
 -- The invariant: of what is left, as much goes as of the whole. The measure is how many runs are left.
-use borrow.Author.Rules.{rules}
-use mathlib.Core.Path.{◌≡◌, sym, ◌∙◌}
-use lib.ListN.{length}
-use Rattle.rules.specs.Lists.{drop_below}
-use Rattle.rings.specs.View.{RunRingWf, run_list}
+use mathlib.Core.Path.{sym, ◌∙◌}
+use Rattle.rings.specs.View.{run_list}
 use Rattle.rings.proofs.GapLaws.{drop-none, drop-stop, drop-go, rest-less}
 use Rattle.rings.proofs.run_ring.RunRing.drop_below.Goals as goal
 
