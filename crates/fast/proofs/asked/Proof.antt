@@ -3,7 +3,7 @@ use borrow.Author.Rules.{rules}
 use borrow.Author.Tests.{le-ltb, ne_eqb}
 use native.Mathlib.Omega.{arith}
 use Rattle.session.specs.View.{view}
-use Rattle.session.proofs.Laws.{holds}
+use Rattle.session.proofs.Laws.{is_true}
 use Rattle.fast.proofs.Laws.{asked-rule, is-sent}
 use Rattle.fast.proofs.asked.Statement.{statement}
 use Rattle.fast.proofs.asked.Tie as tie
@@ -75,7 +75,7 @@ returns-9 c = search rules
 
 -- src/lib.rt:327:1
 returns-10 : tie.Need-returns-10
-returns-10 c = λ now stamp reason text. asked-rule now stamp reason text c.before.before.before.before.before.before.before.before.before.before.before.before.before.before.before.before.before.before.before.before.before.before.before.before.before.args.m (view c.before.before.before.before.before.before.before.before.before.before.before.before.before.before.before.before.before.before.before.before.before.before.before.before.before.args.session) c.before.before.before.before.before.before.before.before.before.before.before.before.before.before.before.before.before.before.before.before.before.before.before.before.before.args.binding (holds c.before.before.before.before.before.before.before.before.before.before.before.before.before.before.before.before.before.before.before.before.before.before.before.before.is-established.ensures c.before.before.before.before.before.before.before.before.before.before.before.before.before.before.before.before.before.before.before.before.before.before.before.if1.false) (holds c.before.before.before.before.before.before.before.before.before.before.before.before.before.before.before.before.before.before.before.before.before.before.is-recoverable.ensures c.before.before.before.before.before.before.before.before.before.before.before.before.before.before.before.before.before.before.before.before.before.if2.false) (holds c.before.before.before.before.before.before.before.before.before.before.before.before.before.before.before.before.before.before.before.same.ensures c.before.before.before.before.before.before.before.before.before.before.before.before.before.before.before.before.before.before.if3.false) c.before.before.before.before.before.before.before.before.before.before.before.before.before.before.before.enum_told.given.1 (ne_eqb _ _ c.before.before.before.before.before.before.before.before.before.before.before.before.before.if4.false) (le-ltb c.before.before.before.before.before.before.before.before.before.before.before.before.before.before.before.before.before.before.before.before.before.before.before.before.before.args.session.config.max_retransmit_count c.before.before.before.before.before.before.before.before.before.before.before.before.before.before.before.before.before.before.before.before.before.before.before.before.before.args.m.count (omega (arith, c.before.before.before.before.before.before.before.before.before.before.if5.false))) (is-sent c.before.before.before.before.before.before.before.before.before.before.before.before.before.before.before.before.before.before.before.before.before.before.before.before.before.args.m (view c.before.before.before.before.before.before.before.before.before.before.before.before.before.before.before.before.before.before.before.before.before.before.before.before.before.args.session) (omega (arith, c.before.before.before.before.before.before.before.before.if6.false)) (omega (arith, c.before.before.before.before.if7.false, c.if8.false, c.before.wide.ensures)))
+returns-10 c = λ now stamp reason text. asked-rule now stamp reason text c.before.before.before.before.before.before.before.before.before.before.before.before.before.before.before.before.before.before.before.before.before.before.before.before.before.args.m (view c.before.before.before.before.before.before.before.before.before.before.before.before.before.before.before.before.before.before.before.before.before.before.before.before.before.args.session) c.before.before.before.before.before.before.before.before.before.before.before.before.before.before.before.before.before.before.before.before.before.before.before.before.before.args.binding (is_true c.before.before.before.before.before.before.before.before.before.before.before.before.before.before.before.before.before.before.before.before.before.before.before.before.is-established.ensures c.before.before.before.before.before.before.before.before.before.before.before.before.before.before.before.before.before.before.before.before.before.before.before.if1.false) (is_true c.before.before.before.before.before.before.before.before.before.before.before.before.before.before.before.before.before.before.before.before.before.before.is-recoverable.ensures c.before.before.before.before.before.before.before.before.before.before.before.before.before.before.before.before.before.before.before.before.before.if2.false) (is_true c.before.before.before.before.before.before.before.before.before.before.before.before.before.before.before.before.before.before.before.same.ensures c.before.before.before.before.before.before.before.before.before.before.before.before.before.before.before.before.before.before.if3.false) c.before.before.before.before.before.before.before.before.before.before.before.before.before.before.before.enum_told.given.1 (ne_eqb _ _ c.before.before.before.before.before.before.before.before.before.before.before.before.before.if4.false) (le-ltb c.before.before.before.before.before.before.before.before.before.before.before.before.before.before.before.before.before.before.before.before.before.before.before.before.before.args.session.config.max_retransmit_count c.before.before.before.before.before.before.before.before.before.before.before.before.before.before.before.before.before.before.before.before.before.before.before.before.before.args.m.count (omega (arith, c.before.before.before.before.before.before.before.before.before.before.if5.false))) (is-sent c.before.before.before.before.before.before.before.before.before.before.before.before.before.before.before.before.before.before.before.before.before.before.before.before.before.args.m (view c.before.before.before.before.before.before.before.before.before.before.before.before.before.before.before.before.before.before.before.before.before.before.before.before.before.args.session) (omega (arith, c.before.before.before.before.before.before.before.before.if6.false)) (omega (arith, c.before.before.before.before.if7.false, c.if8.false, c.before.wide.ensures)))
 
 pub asked-spec : {M : Type 1} → statement M
 asked-spec =

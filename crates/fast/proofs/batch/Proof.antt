@@ -3,7 +3,7 @@ use borrow.Author.Rules.{rules}
 use borrow.Author.Tests.{ne_eqb}
 use native.Mathlib.Omega.{arith}
 use Rattle.session.specs.View.{view}
-use Rattle.session.proofs.Laws.{holds}
+use Rattle.session.proofs.Laws.{is_true}
 use Rattle.fast.proofs.Laws.{batch-passes, batch-rule}
 use Rattle.fast.proofs.batch.Statement.{statement}
 use Rattle.fast.proofs.batch.Tie as tie
@@ -61,7 +61,7 @@ returns-7 : tie.Need-returns-7
 returns-7 c =
     record {
       counted = ne_eqb _ _ c.before.before.before.before.before.before.before.if2.false;
-      passed = batch-passes c.before.before.before.before.before.before.before.before.before.before.before.before.before.before.args.count c.before.before.before.before.before.before.before.before.before.it.given.0.0 (view c.before.before.before.before.before.before.before.before.before.before.before.before.before.before.args.session) c.before.before.before.before.before.before.before.before.before.before.before.before.before.before.args.binding (holds c.before.before.before.before.before.before.before.before.before.before.before.before.before.is-established.ensures c.before.before.before.before.before.before.before.before.before.before.before.before.if1.false) c.before.before.before.before.before.before.before.before.before.it.given.1 (omega (arith, c.before.before.before.before.before.if3.false)) (omega (arith, c.before.before.before.if4.false)) (omega (arith, c.if5.false, c.before.wide.ensures));
+      passed = batch-passes c.before.before.before.before.before.before.before.before.before.before.before.before.before.before.args.count c.before.before.before.before.before.before.before.before.before.it.given.0.0 (view c.before.before.before.before.before.before.before.before.before.before.before.before.before.before.args.session) c.before.before.before.before.before.before.before.before.before.before.before.before.before.before.args.binding (is_true c.before.before.before.before.before.before.before.before.before.before.before.before.before.is-established.ensures c.before.before.before.before.before.before.before.before.before.before.before.before.if1.false) c.before.before.before.before.before.before.before.before.before.it.given.1 (omega (arith, c.before.before.before.before.before.if3.false)) (omega (arith, c.before.before.before.if4.false)) (omega (arith, c.if5.false, c.before.wide.ensures));
       does = λ now. batch-rule now c.before.before.before.before.before.before.before.before.before.before.before.before.before.before.args.count c.before.before.before.before.before.before.before.before.before.it.given.0.0 (view c.before.before.before.before.before.before.before.before.before.before.before.before.before.before.args.session) c.before.before.before.before.before.before.before.before.before.before.before.before.before.before.args.binding c.before.before.before.before.before.before.before.before.before.it.given.1;
     }
 

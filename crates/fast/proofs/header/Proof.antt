@@ -3,7 +3,7 @@ use borrow.Author.Rules.{rules}
 use borrow.Author.Tests.{eq-eqb}
 use native.Mathlib.Omega.{arith}
 use Rattle.session.specs.View.{view}
-use Rattle.session.proofs.Laws.{holds, is_false}
+use Rattle.session.proofs.Laws.{is_true, is_false}
 use Rattle.fast.proofs.Laws.{header-rule, in-range}
 use Rattle.fast.proofs.header.Statement.{statement}
 use Rattle.fast.proofs.header.Tie as tie
@@ -80,7 +80,7 @@ returns-10 c = search rules
 
 -- src/lib.rt:168:1
 returns-11 : tie.Need-returns-11
-returns-11 c = λ now stamp reason text. header-rule now stamp reason text c.before.before.before.before.before.before.before.before.before.before.before.before.before.before.before.before.before.before.before.before.before.before.before.before.before.before.before.before.args.m c.before.before.before.before.before.before.before.before.before.before.before.before.before.before.before.before.before.before.it.given.0.0 (view c.before.before.before.before.before.before.before.before.before.before.before.before.before.before.before.before.before.before.before.before.before.before.before.before.before.before.before.before.args.session) c.before.before.before.before.before.before.before.before.before.before.before.before.before.before.before.before.before.before.before.before.before.before.before.before.before.before.before.before.args.binding (is_false c.before.before.before.before.before.before.before.before.before.before.before.before.before.before.before.before.before.before.before.before.before.before.before.before.before.before.before.is-closing.ensures c.before.before.before.before.before.before.before.before.before.before.before.before.before.before.before.before.before.before.before.before.before.before.before.before.before.before.if1.false) (holds c.before.before.before.before.before.before.before.before.before.before.before.before.before.before.before.before.before.before.before.before.before.before.before.before.before.is-recoverable.ensures c.before.before.before.before.before.before.before.before.before.before.before.before.before.before.before.before.before.before.before.before.before.before.before.before.if2.false) (holds c.before.before.before.before.before.before.before.before.before.before.before.before.before.before.before.before.before.before.before.before.before.before.same.ensures c.before.before.before.before.before.before.before.before.before.before.before.before.before.before.before.before.before.before.before.before.before.if3.false) c.before.before.before.before.before.before.before.before.before.before.before.before.before.before.before.before.before.before.it.given.1 (eq-eqb c.before.before.before.before.before.before.before.before.before.before.before.before.before.before.before.before.before.before.before.before.before.before.before.before.before.before.before.before.args.m.request_timestamp.0 c.before.before.before.before.before.before.before.before.before.before.before.before.before.before.before.before.before.before.it.given.0.0.timestamp.0 (omega (arith, c.before.before.before.before.before.before.before.before.before.before.before.before.before.before.if4.false))) (in-range c.before.before.before.before.before.before.before.before.before.before.before.before.before.before.before.before.before.before.before.before.before.before.before.before.before.before.before.before.args.m c.before.before.before.before.before.before.before.before.before.before.before.before.before.before.before.before.before.before.it.given.0.0 (omega (arith, c.before.before.before.before.before.before.before.before.before.before.before.before.if5.false)) (omega (arith, c.before.before.before.before.before.before.before.before.before.before.if6.false, c.before.before.before.before.before.before.before.if7.false)) (omega (arith, c.before.before.before.before.if8.false, c.if9.false, c.before.wide.ensures)))
+returns-11 c = λ now stamp reason text. header-rule now stamp reason text c.before.before.before.before.before.before.before.before.before.before.before.before.before.before.before.before.before.before.before.before.before.before.before.before.before.before.before.before.args.m c.before.before.before.before.before.before.before.before.before.before.before.before.before.before.before.before.before.before.it.given.0.0 (view c.before.before.before.before.before.before.before.before.before.before.before.before.before.before.before.before.before.before.before.before.before.before.before.before.before.before.before.before.args.session) c.before.before.before.before.before.before.before.before.before.before.before.before.before.before.before.before.before.before.before.before.before.before.before.before.before.before.before.before.args.binding (is_false c.before.before.before.before.before.before.before.before.before.before.before.before.before.before.before.before.before.before.before.before.before.before.before.before.before.before.before.is-closing.ensures c.before.before.before.before.before.before.before.before.before.before.before.before.before.before.before.before.before.before.before.before.before.before.before.before.before.before.if1.false) (is_true c.before.before.before.before.before.before.before.before.before.before.before.before.before.before.before.before.before.before.before.before.before.before.before.before.before.is-recoverable.ensures c.before.before.before.before.before.before.before.before.before.before.before.before.before.before.before.before.before.before.before.before.before.before.before.before.if2.false) (is_true c.before.before.before.before.before.before.before.before.before.before.before.before.before.before.before.before.before.before.before.before.before.before.same.ensures c.before.before.before.before.before.before.before.before.before.before.before.before.before.before.before.before.before.before.before.before.before.if3.false) c.before.before.before.before.before.before.before.before.before.before.before.before.before.before.before.before.before.before.it.given.1 (eq-eqb c.before.before.before.before.before.before.before.before.before.before.before.before.before.before.before.before.before.before.before.before.before.before.before.before.before.before.before.before.args.m.request_timestamp.0 c.before.before.before.before.before.before.before.before.before.before.before.before.before.before.before.before.before.before.it.given.0.0.timestamp.0 (omega (arith, c.before.before.before.before.before.before.before.before.before.before.before.before.before.before.if4.false))) (in-range c.before.before.before.before.before.before.before.before.before.before.before.before.before.before.before.before.before.before.before.before.before.before.before.before.before.before.before.before.args.m c.before.before.before.before.before.before.before.before.before.before.before.before.before.before.before.before.before.before.it.given.0.0 (omega (arith, c.before.before.before.before.before.before.before.before.before.before.before.before.if5.false)) (omega (arith, c.before.before.before.before.before.before.before.before.before.before.if6.false, c.before.before.before.before.before.before.before.if7.false)) (omega (arith, c.before.before.before.before.if8.false, c.if9.false, c.before.wide.ensures)))
 
 pub header-spec : {M : Type 1} → statement M
 header-spec =

@@ -6,7 +6,7 @@ use mathlib.Core.Path.{ap, sym, ◌∙◌}
 use Rattle.rules.specs.Names.{MaybeInstant}
 use Rattle.rules.specs.Deadlines.{is_due}
 use Rattle.session.specs.View.{view}
-use Rattle.session.proofs.Laws.{holds}
+use Rattle.session.proofs.Laws.{is_true}
 use Rattle.fast.proofs.Laws.{idle-rule}
 use Rattle.fast.proofs.idle.Statement.{statement}
 use Rattle.fast.proofs.idle.Tie as tie
@@ -37,7 +37,7 @@ enum_told c = search rules
 
 -- src/lib.rt:159:9
 returns-2 : tie.Need-returns-2
-returns-2 c = λ stamp reason. idle-rule c.before.before.before.before.before.args.now stamp reason (view c.before.before.before.before.before.args.session) c.before.before.before.before.before.args.binding (holds c.before.before.before.before.is-established.ensures c.before.before.before.if1.false) (ap (λ (d : MaybeInstant). is_due d c.before.before.before.before.before.args.now) (sym c.before.before.next-deadline.ensures ∙ c.enum_told.given.1))
+returns-2 c = λ stamp reason. idle-rule c.before.before.before.before.before.args.now stamp reason (view c.before.before.before.before.before.args.session) c.before.before.before.before.before.args.binding (is_true c.before.before.before.before.is-established.ensures c.before.before.before.if1.false) (ap (λ (d : MaybeInstant). is_due d c.before.before.before.before.before.args.now) (sym c.before.before.next-deadline.ensures ∙ c.enum_told.given.1))
 
 -- src/lib.rt:162:9
 returns-3 : tie.Need-returns-3
@@ -45,7 +45,7 @@ returns-3 c = search rules
 
 -- src/lib.rt:152:1
 returns-4 : tie.Need-returns-4
-returns-4 c = λ stamp reason. idle-rule c.before.before.before.before.before.before.before.before.before.args.now stamp reason (view c.before.before.before.before.before.before.before.before.before.args.session) c.before.before.before.before.before.before.before.before.before.args.binding (holds c.before.before.before.before.before.before.before.before.is-established.ensures c.before.before.before.before.before.before.before.if1.false) (ap (λ (d : MaybeInstant). is_due d c.before.before.before.before.before.before.before.before.before.args.now) (sym c.before.before.before.before.before.before.next-deadline.ensures ∙ c.before.before.before.before.due.given.1) ∙ lt-leb c.before.before.before.before.due.given.0.0.0 c.before.before.before.before.before.before.before.before.before.args.now.0 (omega (arith, c.if2.false)))
+returns-4 c = λ stamp reason. idle-rule c.before.before.before.before.before.before.before.before.before.args.now stamp reason (view c.before.before.before.before.before.before.before.before.before.args.session) c.before.before.before.before.before.before.before.before.before.args.binding (is_true c.before.before.before.before.before.before.before.before.is-established.ensures c.before.before.before.before.before.before.before.if1.false) (ap (λ (d : MaybeInstant). is_due d c.before.before.before.before.before.before.before.before.before.args.now) (sym c.before.before.before.before.before.before.next-deadline.ensures ∙ c.before.before.before.before.due.given.1) ∙ lt-leb c.before.before.before.before.due.given.0.0.0 c.before.before.before.before.before.before.before.before.before.args.now.0 (omega (arith, c.if2.false)))
 
 pub idle_spec : {M : Type 1} → statement M
 idle_spec =

@@ -1,8 +1,8 @@
--- None of the tests that lead elsewhere holds.
+-- None of the tests that lead elsewhere is_true.
 use borrow.Author.Rules.{rules}
 use borrow.Author.Tests.{ne_eqb}
 use Rattle.session.specs.View.{view}
-use Rattle.session.proofs.Laws.{holds, is_false}
+use Rattle.session.proofs.Laws.{is_true, is_false}
 use Rattle.fast.proofs.Laws.{live-rule}
 use Rattle.fast.proofs.live.Statement.{statement}
 use Rattle.fast.proofs.live.Tie as tie
@@ -71,7 +71,7 @@ returns-7 c = search rules
 
 -- src/lib.rt:54:1
 returns-8 : tie.Need-returns-8
-returns-8 c = λ now stamp. live-rule now stamp (view c.before.before.before.before.before.before.before.before.before.before.before.before.before.before.before.before.before.args.session) c.before.before.before.before.before.before.before.before.before.before.before.before.before.before.before.before.before.args.binding c.before.before.before.it.given.0.0 (is_false c.before.before.before.before.before.before.before.before.before.before.before.before.before.before.before.before.is-closing.ensures c.before.before.before.before.before.before.before.before.before.before.before.before.before.before.before.if1.false) c.before.before.before.before.before.before.before.before.before.before.before.before.before.before.if2.false (holds c.before.before.before.before.before.before.before.before.before.before.before.before.before.is-sequenced.ensures c.before.before.before.before.before.before.before.before.before.before.before.before.if3.false) c.before.before.before.before.before.before.before.before.before.enum_told.given.1 c.before.before.before.before.before.before.enum-told3.given.1 c.before.before.before.it.given.1 (ne_eqb _ _ c.if4.false)
+returns-8 c = λ now stamp. live-rule now stamp (view c.before.before.before.before.before.before.before.before.before.before.before.before.before.before.before.before.before.args.session) c.before.before.before.before.before.before.before.before.before.before.before.before.before.before.before.before.before.args.binding c.before.before.before.it.given.0.0 (is_false c.before.before.before.before.before.before.before.before.before.before.before.before.before.before.before.before.is-closing.ensures c.before.before.before.before.before.before.before.before.before.before.before.before.before.before.before.if1.false) c.before.before.before.before.before.before.before.before.before.before.before.before.before.before.if2.false (is_true c.before.before.before.before.before.before.before.before.before.before.before.before.before.is-sequenced.ensures c.before.before.before.before.before.before.before.before.before.before.before.before.if3.false) c.before.before.before.before.before.before.before.before.before.enum_told.given.1 c.before.before.before.before.before.before.enum-told3.given.1 c.before.before.before.it.given.1 (ne_eqb _ _ c.if4.false)
 
 pub live-spec : {M : Type 1} → statement M
 live-spec =

@@ -4,7 +4,7 @@ use borrow.Author.Tests.{le-ltb, lt-leb, ne_eqb}
 use native.Mathlib.Omega.{arith}
 use Prim.Native.Nat.{◌-◌}
 use Rattle.session.specs.View.{view}
-use Rattle.session.proofs.Laws.{holds}
+use Rattle.session.proofs.Laws.{is_true}
 use Rattle.fast.proofs.Laws.{nil_is, lost-rule}
 use Rattle.fast.proofs.lost.Statement.{statement}
 use Rattle.fast.proofs.lost.Tie as tie
@@ -109,7 +109,7 @@ returns-12 c = search rules
 
 -- src/lib.rt:209:1
 returns-13 : tie.Need-returns-13
-returns-13 c = λ now reason text. lost-rule now c.before.before.before.before.before.before.before.before.before.before.before.before.before.before.before.before.before.before.before.before.before.before.before.before.before.before.before.before.before.before.before.before.args.stamp reason text c.before.before.before.before.before.before.before.before.before.before.before.before.before.before.before.before.before.before.before.before.before.before.before.before.before.before.before.before.before.before.before.before.args.next c.before.before.before.before.before.before.before.before.it.given.0.0 (view c.before.before.before.before.before.before.before.before.before.before.before.before.before.before.before.before.before.before.before.before.before.before.before.before.before.before.before.before.before.before.before.before.args.session) c.before.before.before.before.before.before.before.before.before.before.before.before.before.before.before.before.before.before.before.before.before.before.before.before.before.before.before.before.before.before.before.before.args.binding (holds c.before.before.before.before.before.before.before.before.before.before.before.before.before.before.before.before.before.before.before.before.before.before.before.before.before.before.before.before.before.before.before.is-established.ensures c.before.before.before.before.before.before.before.before.before.before.before.before.before.before.before.before.before.before.before.before.before.before.before.before.before.before.before.before.before.before.if1.false) c.before.before.before.before.before.before.before.before.before.before.before.before.before.before.before.before.before.before.before.before.before.before.before.before.before.before.before.before.before.if2.false (holds c.before.before.before.before.before.before.before.before.before.before.before.before.before.before.before.before.before.before.before.before.before.before.before.before.before.before.before.before.is-recoverable.ensures c.before.before.before.before.before.before.before.before.before.before.before.before.before.before.before.before.before.before.before.before.before.before.before.before.before.before.before.if3.false) c.before.before.before.before.before.before.before.before.before.before.before.before.before.before.before.before.before.before.before.before.before.before.before.before.enum_told.given.1 c.before.before.before.before.before.before.before.before.before.before.before.before.before.before.before.before.before.before.before.before.before.enum-told3.given.1 c.before.before.before.before.before.before.before.before.before.before.before.before.before.before.before.before.before.before.enum-told5.given.1 (ne_eqb _ _ c.before.before.before.before.before.before.before.before.before.before.before.before.before.before.before.before.if4.false) (lt-leb c.before.before.before.before.before.before.before.before.before.before.before.before.before.before.before.before.before.before.before.before.before.before.before.before.before.before.before.before.before.before.before.before.args.session.config.max_pending_gaps 0 (omega (arith, c.before.before.before.before.before.before.before.before.before.before.before.before.before.before.if5.false))) (nil_is _ (holds c.before.before.before.before.before.before.before.before.before.before.before.before.is-empty.ensures c.before.before.before.before.before.before.before.before.before.before.before.if6.false)) c.before.before.before.before.before.before.before.before.it.given.1 (omega (arith, c.before.before.before.before.if7.false)) (le-ltb c.before.before.before.before.before.before.before.before.before.before.before.before.before.before.before.before.before.before.before.before.before.before.before.before.before.before.before.before.before.before.before.before.args.session.config.max_gap_len (c.before.before.before.before.before.before.before.before.before.before.before.before.before.before.before.before.before.before.before.before.before.before.before.before.before.before.before.before.before.before.before.before.args.next.0 - c.before.before.before.before.before.before.before.before.it.given.0.0.0) (omega (arith, c.if8.false)))
+returns-13 c = λ now reason text. lost-rule now c.before.before.before.before.before.before.before.before.before.before.before.before.before.before.before.before.before.before.before.before.before.before.before.before.before.before.before.before.before.before.before.before.args.stamp reason text c.before.before.before.before.before.before.before.before.before.before.before.before.before.before.before.before.before.before.before.before.before.before.before.before.before.before.before.before.before.before.before.before.args.next c.before.before.before.before.before.before.before.before.it.given.0.0 (view c.before.before.before.before.before.before.before.before.before.before.before.before.before.before.before.before.before.before.before.before.before.before.before.before.before.before.before.before.before.before.before.before.args.session) c.before.before.before.before.before.before.before.before.before.before.before.before.before.before.before.before.before.before.before.before.before.before.before.before.before.before.before.before.before.before.before.before.args.binding (is_true c.before.before.before.before.before.before.before.before.before.before.before.before.before.before.before.before.before.before.before.before.before.before.before.before.before.before.before.before.before.before.before.is-established.ensures c.before.before.before.before.before.before.before.before.before.before.before.before.before.before.before.before.before.before.before.before.before.before.before.before.before.before.before.before.before.before.if1.false) c.before.before.before.before.before.before.before.before.before.before.before.before.before.before.before.before.before.before.before.before.before.before.before.before.before.before.before.before.before.if2.false (is_true c.before.before.before.before.before.before.before.before.before.before.before.before.before.before.before.before.before.before.before.before.before.before.before.before.before.before.before.before.is-recoverable.ensures c.before.before.before.before.before.before.before.before.before.before.before.before.before.before.before.before.before.before.before.before.before.before.before.before.before.before.before.if3.false) c.before.before.before.before.before.before.before.before.before.before.before.before.before.before.before.before.before.before.before.before.before.before.before.before.enum_told.given.1 c.before.before.before.before.before.before.before.before.before.before.before.before.before.before.before.before.before.before.before.before.before.enum-told3.given.1 c.before.before.before.before.before.before.before.before.before.before.before.before.before.before.before.before.before.before.enum-told5.given.1 (ne_eqb _ _ c.before.before.before.before.before.before.before.before.before.before.before.before.before.before.before.before.if4.false) (lt-leb c.before.before.before.before.before.before.before.before.before.before.before.before.before.before.before.before.before.before.before.before.before.before.before.before.before.before.before.before.before.before.before.before.args.session.config.max_pending_gaps 0 (omega (arith, c.before.before.before.before.before.before.before.before.before.before.before.before.before.before.if5.false))) (nil_is _ (is_true c.before.before.before.before.before.before.before.before.before.before.before.before.is-empty.ensures c.before.before.before.before.before.before.before.before.before.before.before.if6.false)) c.before.before.before.before.before.before.before.before.it.given.1 (omega (arith, c.before.before.before.before.if7.false)) (le-ltb c.before.before.before.before.before.before.before.before.before.before.before.before.before.before.before.before.before.before.before.before.before.before.before.before.before.before.before.before.before.before.before.before.args.session.config.max_gap_len (c.before.before.before.before.before.before.before.before.before.before.before.before.before.before.before.before.before.before.before.before.before.before.before.before.before.before.before.before.before.before.before.before.args.next.0 - c.before.before.before.before.before.before.before.before.it.given.0.0.0) (omega (arith, c.if8.false)))
 
 pub lost-spec : {M : Type 1} → statement M
 lost-spec =

@@ -7,7 +7,7 @@ use Prim.Native.Nat.{◌+◌}
 use Rattle.types.specs.Base.{all_ones}
 use Rattle.rings.specs.View.{gap_list, run_list}
 use Rattle.session.specs.View.{view}
-use Rattle.session.proofs.Laws.{holds}
+use Rattle.session.proofs.Laws.{is_true}
 use Rattle.rings.proofs.GapLaws.{sound-wf, gap_length, run_length}
 use Rattle.rings.proofs.Laws.{nil-of}
 use Rattle.fast.proofs.Laws.{recovered-rule, only_one}
@@ -105,7 +105,7 @@ returns-12 c = search rules
 
 -- src/lib.rt:313:29
 front-requires : tie.Need-front-requires
-front-requires c κs = (sound-wf c.before.before.before.before.before.before.before.before.before.before.before.before.before.before.before.before.before.before.before.before.before.before.before.before.before.before.before.before.before.before.before.before.before.args.session.gaps (holds c.before.before.before.before.before.before.before.sound.ensures c.before.before.before.before.before.before.if7.false)).missing
+front-requires c κs = (sound-wf c.before.before.before.before.before.before.before.before.before.before.before.before.before.before.before.before.before.before.before.before.before.before.before.before.before.before.before.before.before.before.before.before.before.args.session.gaps (is_true c.before.before.before.before.before.before.before.sound.ensures c.before.before.before.before.before.before.if7.false)).missing
 
 -- src/lib.rt:313:24
 enum-known-g : tie.Need-enum-known-g
@@ -141,7 +141,7 @@ returns-16 c =
     let g = c.before.before.before.before.before.before.before.g.given.0.0 in
     let none : s.gaps.overflow_received.count ≡ 0 = omega (arith, c.before.before.before.before.before.before.before.before.before.before.before.before.before.if8.false) in
     let one : s.gaps.missing.count ≡ 1 = omega (arith, c.before.before.before.before.before.before.before.before.before.before.if9.false) in
-    recovered-rule now stamp r o g (view s) c.before.before.before.before.before.before.before.before.before.before.before.before.before.before.before.before.before.before.before.before.before.before.before.before.before.before.before.before.before.before.before.before.before.before.before.before.before.before.before.before.before.before.before.args.binding (holds c.before.before.before.before.before.before.before.before.before.before.before.before.before.before.before.before.before.before.before.before.before.before.before.before.before.before.before.before.before.before.before.before.before.before.before.before.before.before.before.before.before.before.is-established.ensures c.before.before.before.before.before.before.before.before.before.before.before.before.before.before.before.before.before.before.before.before.before.before.before.before.before.before.before.before.before.before.before.before.before.before.before.before.before.before.before.before.before.if1.false) c.before.before.before.before.before.before.before.before.before.before.before.before.before.before.before.before.before.before.before.before.before.before.before.before.before.before.before.before.before.before.before.before.before.before.before.before.before.before.enum_told.given.1 c.before.before.before.before.before.before.before.before.before.before.before.before.before.before.before.before.before.before.before.before.before.before.before.before.before.before.before.before.before.before.before.before.before.before.before.batch.given.1 (le-leb r.remaining 1 (omega (arith, c.before.before.before.before.before.before.before.before.before.before.before.before.before.before.before.before.before.before.before.before.before.before.before.before.before.before.before.before.before.before.before.before.if2.false))) (ne_eqb r.next.0 all_ones c.before.before.before.before.before.before.before.before.before.before.before.before.before.before.before.before.before.before.before.before.before.before.before.before.before.before.before.before.before.before.if3.false) c.before.before.before.before.before.before.before.before.before.before.before.before.before.before.before.before.before.before.before.before.before.before.before.before.before.before.before.outstanding.given.1 (ne_eqb o.delivered 4294967295 c.before.before.before.before.before.before.before.before.before.before.before.before.before.before.before.before.before.before.before.before.before.before.before.before.if4.false) (ne_eqb o.count 0 (λ z. omega (arith, z, c.before.before.before.before.before.before.before.before.before.before.before.before.before.before.before.before.before.before.before.before.before.before.if5.false))) (le-leb o.count (o.delivered + 1) (omega (arith, c.before.before.before.before.before.before.before.before.before.before.before.before.before.before.before.before.before.before.before.if6.false)))
+    recovered-rule now stamp r o g (view s) c.before.before.before.before.before.before.before.before.before.before.before.before.before.before.before.before.before.before.before.before.before.before.before.before.before.before.before.before.before.before.before.before.before.before.before.before.before.before.before.before.before.before.before.args.binding (is_true c.before.before.before.before.before.before.before.before.before.before.before.before.before.before.before.before.before.before.before.before.before.before.before.before.before.before.before.before.before.before.before.before.before.before.before.before.before.before.before.before.before.before.is-established.ensures c.before.before.before.before.before.before.before.before.before.before.before.before.before.before.before.before.before.before.before.before.before.before.before.before.before.before.before.before.before.before.before.before.before.before.before.before.before.before.before.before.before.if1.false) c.before.before.before.before.before.before.before.before.before.before.before.before.before.before.before.before.before.before.before.before.before.before.before.before.before.before.before.before.before.before.before.before.before.before.before.before.before.before.enum_told.given.1 c.before.before.before.before.before.before.before.before.before.before.before.before.before.before.before.before.before.before.before.before.before.before.before.before.before.before.before.before.before.before.before.before.before.before.before.batch.given.1 (le-leb r.remaining 1 (omega (arith, c.before.before.before.before.before.before.before.before.before.before.before.before.before.before.before.before.before.before.before.before.before.before.before.before.before.before.before.before.before.before.before.before.if2.false))) (ne_eqb r.next.0 all_ones c.before.before.before.before.before.before.before.before.before.before.before.before.before.before.before.before.before.before.before.before.before.before.before.before.before.before.before.before.before.before.if3.false) c.before.before.before.before.before.before.before.before.before.before.before.before.before.before.before.before.before.before.before.before.before.before.before.before.before.before.before.outstanding.given.1 (ne_eqb o.delivered 4294967295 c.before.before.before.before.before.before.before.before.before.before.before.before.before.before.before.before.before.before.before.before.before.before.before.before.if4.false) (ne_eqb o.count 0 (λ z. omega (arith, z, c.before.before.before.before.before.before.before.before.before.before.before.before.before.before.before.before.before.before.before.before.before.before.if5.false))) (le-leb o.count (o.delivered + 1) (omega (arith, c.before.before.before.before.before.before.before.before.before.before.before.before.before.before.before.before.before.before.before.if6.false)))
     (nil-of (run_list s.gaps.overflow_received) (run_length s.gaps.overflow_received ∙ none))
     (only_one (gap_list s.gaps.missing) g (sym c.before.before.before.before.before.before.before.before.before.front.ensures ∙ c.before.before.before.before.before.before.before.g.given.1) (gap_length s.gaps.missing ∙ one))
     (le-ltb (g.from.0 + o.count) g.end.0 (omega (arith, c.before.before.before.before.if10.false, c.before.if11.false, c.before.before.before.wide.ensures)))

@@ -3,7 +3,7 @@ use borrow.Author.Rules.{rules}
 use borrow.Author.Tests.{ne_eqb}
 use native.Mathlib.Omega.{arith}
 use Rattle.session.specs.View.{view}
-use Rattle.session.proofs.Laws.{holds, is_false}
+use Rattle.session.proofs.Laws.{is_true, is_false}
 use Rattle.fast.proofs.Laws.{same-rule}
 use Rattle.fast.proofs.same.Statement.{statement}
 use Rattle.fast.proofs.same.Tie as tie
@@ -76,7 +76,7 @@ returns-8 c = search rules
 
 -- src/lib.rt:89:1
 returns-9 : tie.Need-returns-9
-returns-9 c = λ now stamp reason text. same-rule now stamp reason text c.before.before.before.before.before.before.before.before.before.before.before.before.before.before.before.before.before.before.before.before.args.next c.before.before.before.before.it.given.0.0 (view c.before.before.before.before.before.before.before.before.before.before.before.before.before.before.before.before.before.before.before.before.args.session) c.before.before.before.before.before.before.before.before.before.before.before.before.before.before.before.before.before.before.before.before.args.binding (is_false c.before.before.before.before.before.before.before.before.before.before.before.before.before.before.before.before.before.before.before.is-closing.ensures c.before.before.before.before.before.before.before.before.before.before.before.before.before.before.before.before.before.before.if1.false) c.before.before.before.before.before.before.before.before.before.before.before.before.before.before.before.before.before.if2.false (holds c.before.before.before.before.before.before.before.before.before.before.before.before.before.before.before.before.is-sequenced.ensures c.before.before.before.before.before.before.before.before.before.before.before.before.before.before.before.if3.false) (ne_eqb _ _ c.before.before.before.before.before.before.before.before.before.before.before.before.before.if4.false) c.before.before.before.before.before.before.before.before.before.before.enum_told.given.1 c.before.before.before.before.before.before.before.enum-told3.given.1 c.before.before.before.before.it.given.1 (omega (arith, c.if5.false))
+returns-9 c = λ now stamp reason text. same-rule now stamp reason text c.before.before.before.before.before.before.before.before.before.before.before.before.before.before.before.before.before.before.before.before.args.next c.before.before.before.before.it.given.0.0 (view c.before.before.before.before.before.before.before.before.before.before.before.before.before.before.before.before.before.before.before.before.args.session) c.before.before.before.before.before.before.before.before.before.before.before.before.before.before.before.before.before.before.before.before.args.binding (is_false c.before.before.before.before.before.before.before.before.before.before.before.before.before.before.before.before.before.before.before.is-closing.ensures c.before.before.before.before.before.before.before.before.before.before.before.before.before.before.before.before.before.before.if1.false) c.before.before.before.before.before.before.before.before.before.before.before.before.before.before.before.before.before.if2.false (is_true c.before.before.before.before.before.before.before.before.before.before.before.before.before.before.before.before.is-sequenced.ensures c.before.before.before.before.before.before.before.before.before.before.before.before.before.before.before.if3.false) (ne_eqb _ _ c.before.before.before.before.before.before.before.before.before.before.before.before.before.if4.false) c.before.before.before.before.before.before.before.before.before.before.enum_told.given.1 c.before.before.before.before.before.before.before.enum-told3.given.1 c.before.before.before.before.it.given.1 (omega (arith, c.if5.false))
 
 pub same_spec : {M : Type 1} → statement M
 same_spec =

@@ -5,7 +5,7 @@ use native.Mathlib.Omega.{arith}
 use Prim.Native.Nat.{◌-◌}
 use Rattle.types.specs.Base.{all_ones}
 use Rattle.session.specs.View.{view}
-use Rattle.session.proofs.Laws.{holds}
+use Rattle.session.proofs.Laws.{is_true}
 use Rattle.fast.proofs.Laws.{sent-passes, sent-rule}
 use Rattle.fast.proofs.sent.Statement.{statement}
 use Rattle.fast.proofs.sent.Tie as tie
@@ -57,8 +57,8 @@ returns-5 c = search rules
 returns-6 : tie.Need-returns-6
 returns-6 c =
     record {
-      passed = sent-passes (view c.before.before.before.before.before.before.before.before.before.before.before.args.session) c.before.before.before.before.before.before.before.before.before.before.before.args.binding (holds c.before.before.before.before.before.before.before.before.before.before.is-established.ensures c.before.before.before.before.before.before.before.before.before.if1.false) (holds c.before.before.before.before.before.before.is-sequenced.ensures c.before.before.before.before.before.if3.false) c.before.before.enum_told.given.1 (lt-leb (all_ones - 1) c.before.before.before.before.before.before.before.before.before.before.before.args.session.outbound_next.0 (omega (arith, c.if4.false)));
-      does = λ now. sent-rule now (view c.before.before.before.before.before.before.before.before.before.before.before.args.session) c.before.before.before.before.before.before.before.before.before.before.before.args.binding (holds c.before.before.before.before.before.before.is-sequenced.ensures c.before.before.before.before.before.if3.false) (not-false _ c.before.before.before.before.before.before.before.if2.false);
+      passed = sent-passes (view c.before.before.before.before.before.before.before.before.before.before.before.args.session) c.before.before.before.before.before.before.before.before.before.before.before.args.binding (is_true c.before.before.before.before.before.before.before.before.before.before.is-established.ensures c.before.before.before.before.before.before.before.before.before.if1.false) (is_true c.before.before.before.before.before.before.is-sequenced.ensures c.before.before.before.before.before.if3.false) c.before.before.enum_told.given.1 (lt-leb (all_ones - 1) c.before.before.before.before.before.before.before.before.before.before.before.args.session.outbound_next.0 (omega (arith, c.if4.false)));
+      does = λ now. sent-rule now (view c.before.before.before.before.before.before.before.before.before.before.before.args.session) c.before.before.before.before.before.before.before.before.before.before.before.args.binding (is_true c.before.before.before.before.before.before.is-sequenced.ensures c.before.before.before.before.before.if3.false) (not-false _ c.before.before.before.before.before.before.before.if2.false);
     }
 
 pub sent-spec : {M : Type 1} → statement M

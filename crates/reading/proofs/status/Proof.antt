@@ -3,7 +3,7 @@ use borrow.Author.Rules.{rules}
 use mathlib.Core.Path.{ap}
 use Rattle.rules.specs.Names.{MaybeBinding, SessionStatus}
 use Rattle.types.specs.States.{link_status}
-use Rattle.session.proofs.Laws.{fails, holds}
+use Rattle.session.proofs.Laws.{is_false, is_true}
 use Rattle.reading.specs.declared.StatusAnswer.TheVariants as statuses
 use Rattle.reading.proofs.status.Statement.{statement}
 use Rattle.reading.proofs.status.Tie as tie
@@ -12,7 +12,7 @@ is-good-requires : tie.Need-is-good-requires
 is-good-requires c κs = search rules
 
 returns : tie.Need-returns
-returns c = rw (fails c.before.is-good.ensures c.if1.true)
+returns c = rw (is_false c.before.is-good.ensures c.if1.true)
 
 enum-known-it : tie.Need-enum-known-it
 enum-known-it c = search rules
@@ -21,13 +21,13 @@ enum_told : tie.Need-enum-told
 enum_told c = search rules
 
 returns-2 : tie.Need-returns-2
-returns-2 c = rw (holds c.before.before.before.is-good.ensures c.before.before.if1.false, ap (λ (b : MaybeBinding). link_status b) c.enum_told.given.1)
+returns-2 c = rw (is_true c.before.before.before.is-good.ensures c.before.before.if1.false, ap (λ (b : MaybeBinding). link_status b) c.enum_told.given.1)
 
 status-requires : tie.Need-status-requires
 status-requires c κs = search rules
 
 returns-3 : tie.Need-returns-3
-returns-3 c = rw (holds c.before.before.before.before.before.is-good.ensures c.before.before.before.before.if1.false, ap (λ (b : MaybeBinding). link_status b) c.before.before.it.given.1) (ap (λ (x : SessionStatus). statuses.Is x) c.status.ensures)
+returns-3 c = rw (is_true c.before.before.before.before.before.is-good.ensures c.before.before.before.before.if1.false, ap (λ (b : MaybeBinding). link_status b) c.before.before.it.given.1) (ap (λ (x : SessionStatus). statuses.Is x) c.status.ensures)
 
 pub status-spec : {M : Type 1} → statement M
 status-spec =
