@@ -1,4 +1,6 @@
 //! The exported calls: any record and any message, refused by 01's table in its order or done as the rule book says.
+#![tactic(auto)]
+
 ghost use Rattle.std.specs.Prelude.{◌≡◌};
 ghost use Rattle.queue.specs.View.{queue_of, OutsWf};
 ghost use Rattle.rules.specs.Calls.{config_fits, has_room, unlinked, opening, opened};

@@ -1,4 +1,6 @@
 //! What a record asks for becomes a call: the one place where the trace program and the library make calls, each with the queue lent.
+#![tactic(auto)]
+
 ghost use Rattle.calls.specs.View.{Answered};
 ghost use Rattle.dispatch.specs.Entries.{call_of};
 

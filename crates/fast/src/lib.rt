@@ -1,5 +1,7 @@
 //! The ordinary calls, known by a look at a few fields: whether the call is one, and what it changes.
 //! A caller that holds the record stores the few fields that change; any other case is for `calls`.
+#![tactic(auto)]
+
 ghost use Rattle.std.specs.Prelude.{◌≡◌};
 ghost use Rattle.session.specs.View.{view};
 ghost use Rattle.fast.specs.Quick.{ready_record, Live, Same, Sent, Idle, Header, Lost, Recovered, Asked, Batch};

@@ -1,5 +1,7 @@
 //! The calls that read a record or hand its outputs on: 1 alone refuses them, bound or not and however full the queue is
 //! (01, "Refusal numbers"). Session and link are not given back: none of these changes them.
+#![tactic(auto)]
+
 ghost use Rattle.std.specs.Prelude.{◌≡◌};
 ghost use Rattle.types.specs.States.{link_status};
 ghost use Rattle.rules.specs.Queries.{next_outbound_seq, next_inbound_seq, has_pending_recovery, announced_next_seq};

@@ -2,7 +2,7 @@
 use borrow.Author.Rules.{rules}
 use mathlib.Core.Bool.{Bool, ◌&&◌}
 use mathlib.Core.Path.{ap, sym, subst, ◌∙◌}
-use Rattle.session.proofs.Laws.{holds, fails, is_true, is_false}
+use Rattle.session.proofs.Laws.{is_true, is_false}
 use Rattle.rules.specs.Names.answer
 use Rattle.rules.specs.Calls.{transport_closed}
 use Rattle.queue.specs.View.{queue_of, QueueIs}
@@ -22,7 +22,7 @@ refused-requires : tie.Need-refused-requires
 refused-requires c κs = search rules
 
 returns : tie.Need-returns
-returns c = closed-refused ((is_clean c.before.before.before.args.«record») && (is_good c.before.before.before.args.«record»)) c.before.before.before.args.«record» _ (and-left-false (is_clean c.before.before.before.args.«record») (is_good c.before.before.before.args.«record») (fails c.before.before.is-clean.ensures c.before.if1.true)) c.refused.ensures
+returns c = closed-refused ((is_clean c.before.before.before.args.«record») && (is_good c.before.before.before.args.«record»)) c.before.before.before.args.«record» _ (and-left-false (is_clean c.before.before.before.args.«record») (is_good c.before.before.before.args.«record») (is_false c.before.before.is-clean.ensures c.before.if1.true)) c.refused.ensures
 
 session-in-requires : tie.Need-session-in-requires
 session-in-requires c κs = search rules
@@ -40,16 +40,16 @@ refused-requires-2 : tie.Need-refused-requires-2
 refused-requires-2 c κs = search rules
 
 returns-2 : tie.Need-returns-2
-returns-2 c = closed-refused ((is_clean c.before.before.before.before.before.before.before.before.before.args.«record») && (is_good c.before.before.before.before.before.before.before.before.before.args.«record»)) c.before.before.before.before.before.before.before.before.before.args.«record» _ (and-right-false (is_clean c.before.before.before.before.before.before.before.before.before.args.«record») (is_good c.before.before.before.before.before.before.before.before.before.args.«record») (holds c.before.before.before.before.before.before.before.before.is-clean.ensures c.before.before.before.before.before.before.before.if1.false) (fails (c.before.before.is-good.ensures ∙ good-as _ _ _ _ _ _ c.before.before.before.before.before.before.session-in.ensures c.before.before.before.before.before.link-in.ensures c.before.before.before.queue-in.ensures) c.before.if2.true)) c.refused2.ensures
+returns-2 c = closed-refused ((is_clean c.before.before.before.before.before.before.before.before.before.args.«record») && (is_good c.before.before.before.before.before.before.before.before.before.args.«record»)) c.before.before.before.before.before.before.before.before.before.args.«record» _ (and-right-false (is_clean c.before.before.before.before.before.before.before.before.before.args.«record») (is_good c.before.before.before.before.before.before.before.before.before.args.«record») (is_true c.before.before.before.before.before.before.before.before.is-clean.ensures c.before.before.before.before.before.before.before.if1.false) (is_false (c.before.before.is-good.ensures ∙ good-as _ _ _ _ _ _ c.before.before.before.before.before.before.session-in.ensures c.before.before.before.before.before.link-in.ensures c.before.before.before.queue-in.ensures) c.before.if2.true)) c.refused2.ensures
 
 transport-closed-requires : tie.Need-transport-closed-requires
-transport-closed-requires c κs = good-queue _ _ _ (holds c.before.is-good.ensures c.if2.false)
+transport-closed-requires c κs = good-queue _ _ _ (is_true c.before.is-good.ensures c.if2.false)
 
 done-of-requires : tie.Need-done-of-requires
 done-of-requires c κs = search rules
 
 returns-3 : tie.Need-returns-3
-returns-3 c = closed-done ((is_clean c.before.before.before.before.before.before.before.before.before.before.args.«record») && (is_good c.before.before.before.before.before.before.before.before.before.before.args.«record»)) c.before.before.before.before.before.before.before.before.before.before.args.«record» _ (and-true (is_clean c.before.before.before.before.before.before.before.before.before.before.args.«record») (is_good c.before.before.before.before.before.before.before.before.before.before.args.«record») (holds c.before.before.before.before.before.before.before.before.before.is-clean.ensures c.before.before.before.before.before.before.before.before.if1.false) (holds (c.before.before.before.is-good.ensures ∙ good-as _ _ _ _ _ _ c.before.before.before.before.before.before.before.session-in.ensures c.before.before.before.before.before.before.link-in.ensures c.before.before.before.before.queue-in.ensures) c.before.before.if2.false)) (record { queue = c.before.transport-closed.result; closed = subst (λ (x : Outputs). QueueIs c.before.transport-closed.result (transport_closed (queue_of x))) c.before.before.before.before.queue-in.ensures c.before.transport-closed.ensures; is = c.done-of.ensures ∙ (λ i. record { «record» = record_out (c.before.before.before.before.before.before.before.session-in.ensures i) (c.before.before.before.before.before.before.link-in.ensures i) c.before.transport-closed.result; reply = answer_out answer.Ok }) })
+returns-3 c = closed-done ((is_clean c.before.before.before.before.before.before.before.before.before.before.args.«record») && (is_good c.before.before.before.before.before.before.before.before.before.before.args.«record»)) c.before.before.before.before.before.before.before.before.before.before.args.«record» _ (and-true (is_clean c.before.before.before.before.before.before.before.before.before.before.args.«record») (is_good c.before.before.before.before.before.before.before.before.before.before.args.«record») (is_true c.before.before.before.before.before.before.before.before.before.is-clean.ensures c.before.before.before.before.before.before.before.before.if1.false) (is_true (c.before.before.before.is-good.ensures ∙ good-as _ _ _ _ _ _ c.before.before.before.before.before.before.before.session-in.ensures c.before.before.before.before.before.before.link-in.ensures c.before.before.before.before.queue-in.ensures) c.before.before.if2.false)) (record { queue = c.before.transport-closed.result; closed = subst (λ (x : Outputs). QueueIs c.before.transport-closed.result (transport_closed (queue_of x))) c.before.before.before.before.queue-in.ensures c.before.transport-closed.ensures; is = c.done-of.ensures ∙ (λ i. record { «record» = record_out (c.before.before.before.before.before.before.before.session-in.ensures i) (c.before.before.before.before.before.before.link-in.ensures i) c.before.transport-closed.result; reply = answer_out answer.Ok }) })
 
 pub fixp-transport-closed-spec : {M : Type 1} → statement M
 fixp-transport-closed-spec =

@@ -6,7 +6,7 @@ use mathlib.Core.Logic.{⊎_elim}
 use mathlib.Core.List.{◌++◌}
 use native.Mathlib.Omega.{arith}
 use lib.ListN.{length, take, drop}
-use Rattle.session.proofs.Laws.{holds, fails}
+use Rattle.session.proofs.Laws.{is_true, is_false}
 use Rattle.calls.specs.View.{world_of}
 use Rattle.trace.specs.Format.{decode}
 use Rattle.trace.specs.Places.{size_at}
@@ -70,7 +70,7 @@ same_length : tie.Need-same-length invariant-loop decreases-loop
 same_length c = search rules
 
 returns : tie.Need-returns invariant-loop decreases-loop
-returns c = record { is = runs-stop _ _ _ _ _ _ _ _ _ _ c.before.before.before.before.before.before.before.before.before.loop.invariant c.before.before.before.before.before.before.before.before.loop-test.true c.before.before.before.before.before.before.read-record.result (c.before.before.before.before.before.before.read-record.ensures ∙ ap decode c.before.before.before.before.before.before.before.view.ensures.part.bytes) (fails c.before.before.before.before.before.goes_on.ensures c.before.before.before.before.if1.true) c.before.before.stop-line.new.0 c.before.before.stop-line.result c.before.before.stop-line.ensures.is; inside = omega (arith, c.before.before.stop-line.ensures.room, c.before.before.stop-line.auto.0, c.before.before.before.before.before.before.before.before.before.loop.invariant.same, c.before.before.before.before.before.before.before.before.before.loop.invariant.wrote_in, c.before.before.before.before.before.before.before.before.before.loop.invariant.steps, c.before.before.before.before.before.before.before.before.loop-test.true, c.before.before.before.before.before.before.before.before.before.before.before.before.before.before.before.requires) }
+returns c = record { is = runs-stop _ _ _ _ _ _ _ _ _ _ c.before.before.before.before.before.before.before.before.before.loop.invariant c.before.before.before.before.before.before.before.before.loop-test.true c.before.before.before.before.before.before.read-record.result (c.before.before.before.before.before.before.read-record.ensures ∙ ap decode c.before.before.before.before.before.before.before.view.ensures.part.bytes) (is_false c.before.before.before.before.before.goes_on.ensures c.before.before.before.before.if1.true) c.before.before.stop-line.new.0 c.before.before.stop-line.result c.before.before.stop-line.ensures.is; inside = omega (arith, c.before.before.stop-line.ensures.room, c.before.before.stop-line.auto.0, c.before.before.before.before.before.before.before.before.before.loop.invariant.same, c.before.before.before.before.before.before.before.before.before.loop.invariant.wrote_in, c.before.before.before.before.before.before.before.before.before.loop.invariant.steps, c.before.before.before.before.before.before.before.before.loop-test.true, c.before.before.before.before.before.before.before.before.before.before.before.before.before.before.before.requires) }
 
 quick-of-requires : tie.Need-quick-of-requires invariant-loop decreases-loop
 quick-of-requires c κs = search rules
@@ -121,12 +121,12 @@ add-index : tie.Need-overflow-add-index invariant-loop decreases-loop
 add-index c = omega (arith, c.before.before.before.before.before.before.before.before.before.before.before.before.loop.invariant.steps, c.before.before.before.before.before.before.before.before.before.before.before.loop-test.true, c.before.before.before.before.before.before.before.before.before.before.before.before.before.before.before.before.before.before.requires.1.0)
 
 loop-less : tie.Need-loop-smaller invariant-loop decreases-loop
-loop-less c = let long = goes-on-framed _ (holds (c.before.before.before.before.before.before.before.before.goes_on.ensures ∙ ap (λ (x : Record). goes_on x.entry) c.before.before.before.before.before.before.before.before.before.read-record.ensures) c.before.before.before.before.before.before.before.if1.false) in omega (arith, long, c.before.before.before.before.before.before.before.before.before.before.before.loop-test.true, c.before.before.before.before.before.before.before.before.before.before.view.ensures.inside)
+loop-less c = let long = goes-on-framed _ (is_true (c.before.before.before.before.before.before.before.before.goes_on.ensures ∙ ap (λ (x : Record). goes_on x.entry) c.before.before.before.before.before.before.before.before.before.read-record.ensures) c.before.before.before.before.before.before.before.if1.false) in omega (arith, long, c.before.before.before.before.before.before.before.before.before.before.before.loop-test.true, c.before.before.before.before.before.before.before.before.before.before.view.ensures.inside)
 
 loop-again : tie.Need-loop-preserved invariant-loop decreases-loop
 loop-again c =
-    let long = goes-on-framed _ (holds (c.before.before.before.before.before.before.before.before.goes_on.ensures ∙ ap (λ (x : Record). goes_on x.entry) c.before.before.before.before.before.before.before.before.before.read-record.ensures) c.before.before.before.before.before.before.before.if1.false) in
-    runs_on _ _ _ _ _ _ _ _ _ _ c.before.before.before.before.before.before.before.before.before.before.before.before.loop.invariant c.before.before.before.before.before.before.before.before.before.before.before.loop-test.true c.before.before.before.before.before.before.before.before.before.read-record.result (c.before.before.before.before.before.before.before.before.before.read-record.ensures ∙ ap decode c.before.before.before.before.before.before.before.before.before.before.view.ensures.part.bytes) (holds c.before.before.before.before.before.before.before.before.goes_on.ensures c.before.before.before.before.before.before.before.if1.false) c.before.before.before.before.match.session c.before.before.before.before.match.link c.before.before.before.before.match.queue c.before.before.before.before.match.answer c.before.before.before.before.match.outputs (stepped c.before.before.before.before) c.before.before.Line-of.new.0 c.before.before.Line-of.result c.before.before.Line-of.ensures c.before.before.Line-of.auto.0 _ c.before.before.before.before.before.before.before.before.before.before.view.ensures.size long c.before.before.before.before.before.before.before.before.before.before.view.ensures.inside
+    let long = goes-on-framed _ (is_true (c.before.before.before.before.before.before.before.before.goes_on.ensures ∙ ap (λ (x : Record). goes_on x.entry) c.before.before.before.before.before.before.before.before.before.read-record.ensures) c.before.before.before.before.before.before.before.if1.false) in
+    runs_on _ _ _ _ _ _ _ _ _ _ c.before.before.before.before.before.before.before.before.before.before.before.before.loop.invariant c.before.before.before.before.before.before.before.before.before.before.before.loop-test.true c.before.before.before.before.before.before.before.before.before.read-record.result (c.before.before.before.before.before.before.before.before.before.read-record.ensures ∙ ap decode c.before.before.before.before.before.before.before.before.before.before.view.ensures.part.bytes) (is_true c.before.before.before.before.before.before.before.before.goes_on.ensures c.before.before.before.before.before.before.before.if1.false) c.before.before.before.before.match.session c.before.before.before.before.match.link c.before.before.before.before.match.queue c.before.before.before.before.match.answer c.before.before.before.before.match.outputs (stepped c.before.before.before.before) c.before.before.Line-of.new.0 c.before.before.Line-of.result c.before.before.Line-of.ensures c.before.before.Line-of.auto.0 _ c.before.before.before.before.before.before.before.before.before.before.view.ensures.size long c.before.before.before.before.before.before.before.before.before.before.view.ensures.inside
 
 missing-in-requires : tie.Need-missing-in-requires invariant-loop decreases-loop
 missing-in-requires c κs = search rules

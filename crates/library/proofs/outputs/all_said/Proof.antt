@@ -1,11 +1,11 @@
--- What is left to look at decides: each place that holds an output is passed over.
+-- What is left to look at decides: each place that is_true an output is passed over.
 use Prim.Native.Nat.{◌≤◌, ◌-◌}
 use mathlib.Core.Path.{◌≡◌, refl, sym, ◌∙◌}
 use mathlib.Core.Bool.{true, false}
 use native.Mathlib.Omega.{arith}
 use lib.ListN.{length, drop}
 use Rattle.rings.proofs.Laws.{long_of}
-use Rattle.session.proofs.Laws.{holds, fails}
+use Rattle.session.proofs.Laws.{is_true, is_false}
 use Rattle.library.specs.Outputs.{all_said}
 use Rattle.library.proofs.Exports.{said-next, said-none}
 use borrow.Author.Rules.{rules}
@@ -31,7 +31,7 @@ is-said-requires : tie.Need-is-said-requires invariant-loop decreases-loop
 is-said-requires c κs = search rules
 
 returns : tie.Need-returns invariant-loop decreases-loop
-returns c = sym (c.before.before.before.before.loop.invariant.2 ∙ said-next c.before.before.before.before.before.args.t1.slots c.before.before.before.before.loop.i _ false (omega arith) (fails c.before.is_said.ensures c.if1.true))
+returns c = sym (c.before.before.before.before.loop.invariant.2 ∙ said-next c.before.before.before.before.before.args.t1.slots c.before.before.before.before.loop.i _ false (omega arith) (is_false c.before.is_said.ensures c.if1.true))
 
 add-i : tie.Need-overflow-add-i invariant-loop decreases-loop
 add-i c = search rules
@@ -40,7 +40,7 @@ loop-less : tie.Need-loop-smaller invariant-loop decreases-loop
 loop-less c = search rules
 
 loop-again : tie.Need-loop-preserved invariant-loop decreases-loop
-loop-again c = (omega arith, c.before.before.before.before.loop.invariant.1, c.before.before.before.before.loop.invariant.2 ∙ said-next c.before.before.before.before.before.args.t1.slots c.before.before.before.before.loop.i _ true (omega arith) (holds c.before.is_said.ensures c.if1.false))
+loop-again c = (omega arith, c.before.before.before.before.loop.invariant.1, c.before.before.before.before.loop.invariant.2 ∙ said-next c.before.before.before.before.before.args.t1.slots c.before.before.before.before.loop.i _ true (omega arith) (is_true c.before.is_said.ensures c.if1.false))
 
 returns-2 : tie.Need-returns-2 invariant-loop decreases-loop
 returns-2 c = sym (c.before.loop.invariant.2 ∙ said-none c.before.before.args.t1.slots c.before.loop.i (omega arith))

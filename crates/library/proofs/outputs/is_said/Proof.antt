@@ -2,7 +2,7 @@
 use mathlib.Core.Bool.{Bool, ◌&&◌}
 use mathlib.Core.Path.{ap, sym, ◌∙◌}
 use borrow.Author.Tests.{ne_eqb}
-use Rattle.session.proofs.Laws.{holds, fails}
+use Rattle.session.proofs.Laws.{is_true, is_false}
 use Rattle.library.specs.Numbers.{is_listed}
 use Rattle.library.specs.Outputs.{is_said}
 use Rattle.library.proofs.Exports.{and-left-false}
@@ -27,7 +27,7 @@ listed-requires-4 c κs = search rules
 
 returns : tie.Need-returns
 unfolding is_said
-returns c = rw c.before.before.match.keys18 (sym (and-left-false (is_listed c.before.before.before.args.o.by 2) (is_listed c.before.before.before.args.o.code 4) (fails c.before.listed4.ensures c.if1.true)))
+returns c = rw c.before.before.match.keys18 (sym (and-left-false (is_listed c.before.before.before.args.o.by 2) (is_listed c.before.before.before.args.o.code 4) (is_false c.before.listed4.ensures c.if1.true)))
 
 listed-requires-5 : tie.Need-listed-requires-5
 listed-requires-5 c κs = search rules
@@ -105,7 +105,7 @@ returns-18 c = rw c.match.keys17
 
 returns-19 : tie.Need-returns-19
 unfolding is_said
-returns-19 c = rw c.before.before.before.match.keys18 (c.listed5.ensures ∙ sym (ap (λ (t : Bool). t && is_listed c.before.before.before.before.args.o.code 4) (holds c.before.before.listed4.ensures c.before.if1.false)))
+returns-19 c = rw c.before.before.before.match.keys18 (c.listed5.ensures ∙ sym (ap (λ (t : Bool). t && is_listed c.before.before.before.before.args.o.code 4) (is_true c.before.before.listed4.ensures c.before.if1.false)))
 
 returns-20 : tie.Need-returns-20
 unfolding is_said

@@ -1,6 +1,6 @@
 -- Each kind is its own call; a code outside its list makes it malformed.
 use borrow.Author.Tests.{ne_eqb}
-use Rattle.session.proofs.Laws.{holds, fails}
+use Rattle.session.proofs.Laws.{is_true, is_false}
 use Rattle.library.specs.Numbers.{is_listed}
 use Rattle.library.specs.Requests.{entry_in}
 use Rattle.library.proofs.Exports.{choose-left, choose-right}
@@ -16,7 +16,7 @@ listed-requires c κs = search rules
 
 returns : tie.Need-returns
 unfolding entry_in
-returns c = rw c.before.before.match.keys5 (choose-right (is_listed c.before.before.before.before.args.r.code 4) _ _ (fails c.before.listed.ensures c.if1.true))
+returns c = rw c.before.before.match.keys5 (choose-right (is_listed c.before.before.before.before.args.r.code 4) _ _ (is_false c.before.listed.ensures c.if1.true))
 
 termination-in-requires : tie.Need-termination-in-requires
 termination-in-requires c κs = search rules
@@ -26,7 +26,7 @@ listed-requires-2 c κs = search rules
 
 returns-2 : tie.Need-returns-2
 unfolding entry_in
-returns-2 c = rw c.before.before.match.keys7 (choose-right (is_listed c.before.before.before.before.args.r.code 3) _ _ (fails c.before.listed2.ensures c.if2.true))
+returns-2 c = rw c.before.before.match.keys7 (choose-right (is_listed c.before.before.before.before.args.r.code 3) _ _ (is_false c.before.listed2.ensures c.if2.true))
 
 rejection-in-requires : tie.Need-rejection-in-requires
 rejection-in-requires c κs = search rules
@@ -52,7 +52,7 @@ returns-6 c = rw c.match.keys4
 
 returns-7 : tie.Need-returns-7
 unfolding entry_in
-returns-7 c = rw (c.before.before.before.match.keys5, c.termination-in.ensures) (choose-left (is_listed c.before.before.before.before.before.args.r.code 4) _ _ (holds c.before.before.listed.ensures c.before.if1.false))
+returns-7 c = rw (c.before.before.before.match.keys5, c.termination-in.ensures) (choose-left (is_listed c.before.before.before.before.before.args.r.code 4) _ _ (is_true c.before.before.listed.ensures c.before.if1.false))
 
 returns-8 : tie.Need-returns-8
 unfolding entry_in
@@ -60,7 +60,7 @@ returns-8 c = rw c.match.keys6
 
 returns-9 : tie.Need-returns-9
 unfolding entry_in
-returns-9 c = rw (c.before.before.before.match.keys7, c.rejection-in.ensures) (choose-left (is_listed c.before.before.before.before.before.args.r.code 3) _ _ (holds c.before.before.listed2.ensures c.before.if2.false))
+returns-9 c = rw (c.before.before.before.match.keys7, c.rejection-in.ensures) (choose-left (is_listed c.before.before.before.before.before.args.r.code 3) _ _ (is_true c.before.before.listed2.ensures c.before.if2.false))
 
 returns-10 : tie.Need-returns-10
 unfolding entry_in

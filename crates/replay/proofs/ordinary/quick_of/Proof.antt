@@ -1,5 +1,5 @@
 -- By the kind of the record, where it is bound and good.
-use Rattle.session.proofs.Laws.{holds}
+use Rattle.session.proofs.Laws.{is_true}
 use Rattle.replay.proofs.Found.{found-live, found-same, found-sent}
 use borrow.Author.Rules.{rules}
 use Rattle.replay.proofs.ordinary.quick_of.Statement.{statement}
@@ -81,13 +81,13 @@ returns-6 : tie.Need-returns-6
 returns-6 c = search rules
 
 returns-7 : tie.Need-returns-7
-returns-7 c = found-live c.before.before.before.before.before.before.before.before.before.before.before.before.args.«record» c.before.before.before.before.before.before.before.before.before.before.before.before.args.session c.before.before.before.before.before.before.before.before.before.before.before.before.args.link c.before.before.before.before.before.before.before.before.before.before.before.before.args.queue c.before.before.before.before.before.before.before.before.before.before.it.given.0.0 c.before.before.before.before.before.before.before.before.before.before.it.given.1 (holds c.before.before.before.before.before.before.before.is-ready.ensures c.before.before.before.before.before.before.if1.false) (holds c.before.before.before.before.fits2.ensures c.before.before.before.if2.false) c.quick-live.result c.before.enum-told3.given.1 c.quick-live.ensures
+returns-7 c = found-live c.before.before.before.before.before.before.before.before.before.before.before.before.args.«record» c.before.before.before.before.before.before.before.before.before.before.before.before.args.session c.before.before.before.before.before.before.before.before.before.before.before.before.args.link c.before.before.before.before.before.before.before.before.before.before.before.before.args.queue c.before.before.before.before.before.before.before.before.before.before.it.given.0.0 c.before.before.before.before.before.before.before.before.before.before.it.given.1 (is_true c.before.before.before.before.before.before.before.is-ready.ensures c.before.before.before.before.before.before.if1.false) (is_true c.before.before.before.before.fits2.ensures c.before.before.before.if2.false) c.quick-live.result c.before.enum-told3.given.1 c.quick-live.ensures
 
 returns-8 : tie.Need-returns-8
-returns-8 c = found-same c.before.before.before.before.before.before.before.before.before.before.before.before.before.args.«record» c.before.before.before.before.before.before.before.before.before.before.before.before.before.args.session c.before.before.before.before.before.before.before.before.before.before.before.before.before.args.link c.before.before.before.before.before.before.before.before.before.before.before.before.before.args.queue c.before.before.before.before.before.before.before.before.before.before.before.it.given.0.0 c.before.before.before.before.before.before.before.before.before.before.before.it.given.1 (holds c.before.before.before.before.before.before.before.before.is-ready.ensures c.before.before.before.before.before.before.before.if1.false) (holds c.before.before.before.before.before.fits2.ensures c.before.before.before.before.if2.false) c.quick-sequence.result c.before.before.entry3.given.0.0 c.before.before.entry3.given.1 c.quick-sequence.ensures
+returns-8 c = found-same c.before.before.before.before.before.before.before.before.before.before.before.before.before.args.«record» c.before.before.before.before.before.before.before.before.before.before.before.before.before.args.session c.before.before.before.before.before.before.before.before.before.before.before.before.before.args.link c.before.before.before.before.before.before.before.before.before.before.before.before.before.args.queue c.before.before.before.before.before.before.before.before.before.before.before.it.given.0.0 c.before.before.before.before.before.before.before.before.before.before.before.it.given.1 (is_true c.before.before.before.before.before.before.before.before.is-ready.ensures c.before.before.before.before.before.before.before.if1.false) (is_true c.before.before.before.before.before.fits2.ensures c.before.before.before.before.if2.false) c.quick-sequence.result c.before.before.entry3.given.0.0 c.before.before.entry3.given.1 c.quick-sequence.ensures
 
 returns-9 : tie.Need-returns-9
-returns-9 c = found-sent c.before.before.before.before.before.before.before.before.before.before.before.before.args.«record» c.before.before.before.before.before.before.before.before.before.before.before.before.args.session c.before.before.before.before.before.before.before.before.before.before.before.before.args.link c.before.before.before.before.before.before.before.before.before.before.before.before.args.queue c.before.before.before.before.before.before.before.before.before.before.it.given.0.0 c.before.before.before.before.before.before.before.before.before.before.it.given.1 (holds c.before.before.before.before.before.before.before.is-ready.ensures c.before.before.before.before.before.before.if1.false) (holds c.before.before.before.before.fits2.ensures c.before.before.before.if2.false) c.quick-send.result c.before.enum-told4.given.1 c.quick-send.ensures
+returns-9 c = found-sent c.before.before.before.before.before.before.before.before.before.before.before.before.args.«record» c.before.before.before.before.before.before.before.before.before.before.before.before.args.session c.before.before.before.before.before.before.before.before.before.before.before.before.args.link c.before.before.before.before.before.before.before.before.before.before.before.before.args.queue c.before.before.before.before.before.before.before.before.before.before.it.given.0.0 c.before.before.before.before.before.before.before.before.before.before.it.given.1 (is_true c.before.before.before.before.before.before.before.is-ready.ensures c.before.before.before.before.before.before.if1.false) (is_true c.before.before.before.before.fits2.ensures c.before.before.before.if2.false) c.quick-send.result c.before.enum-told4.given.1 c.quick-send.ensures
 
 returns-10 : tie.Need-returns-10
 returns-10 c = search rules

@@ -1,0 +1,13 @@
+-- Of a good record the session's own answer.
+use borrow.Author.Rules.{rules}
+use mathlib.Core.Path.{ap}
+use Rattle.rules.specs.Names.{SessionId}
+use Rattle.session.proofs.Laws.{is_false, is_true}
+use Rattle.reading.specs.declared.IdAnswer.TheVariants as ids
+use Rattle.reading.proofs.id.Goals as goal
+
+pub returns-then-not-is_good : goal.returns-then-not-is_good
+returns-then-not-is_good c = rw (is_false c.is_good.ensures c.if-not-is_good.true)
+
+pub returns : goal.returns
+returns c = rw (is_true c.is_good.ensures c.if-not-is_good.false) (ap (λ (x : SessionId). ids.Is x) c.id.ensures)
