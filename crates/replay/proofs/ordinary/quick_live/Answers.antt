@@ -8,4 +8,4 @@ use borrow.Author.Rules.{rules}
 use Rattle.replay.proofs.ordinary.quick_live.Goals as goal
 
 pub returns : goal.returns
-returns c = record { below = omega (arith, c.if-seq.false, c.known_told-1.given); does = subst (λ (r : MaybeSeq). Live r (view c.args.session) c.args.binding) c.in-Some.is c.live.ensures }
+returns c = record { below = omega (arith, c.if-seq.false); does = subst (λ (r : MaybeSeq). Live r (view c.args.session) c.args.binding) c.in-Some.is c.live.ensures }
