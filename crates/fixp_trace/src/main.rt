@@ -1,8 +1,10 @@
 //! The trace program (01, "Trace program"): a trace from standard input, a line for each record to standard output.
-use libc::STDIN_FILENO;
+#![tactic(auto)]
 
-fn main() {
+use std::io;
+
+fn main(rt: HostRuntime) -> io::Result<()> {
     let mut buf = [0u8; 65537];
-    let n = io::read_full(STDIN_FILENO, &mut buf);
-    replay::print_trace(&buf[..n]);
+    let n = replay::read_full(&mut rt.reader(), &mut buf)?;
+    replay::print_trace(&rt, &buf[..n])
 }

@@ -1,4 +1,6 @@
 //! The calls for C and Rust: records as plain numbers, by value in and out.
+#![tactic(auto)]
+
 ghost use Rattle.std.specs.Prelude.{◌≡◌};
 ghost use Rattle.types.specs.Base.{if◌then◌else◌};
 ghost use Rattle.rules.specs.Names.refusal;

@@ -6,8 +6,6 @@ use mathlib.Core.List.{List, [], ◌∷◌, ◌++◌, append_assoc}
 use native.Mathlib.Omega.{arith}
 use native.Mathlib.Decide.{dec_lt}
 use borrow.Author.Tests.{lt-ltb, le-ltb}
-use types.Run.{OneOf, miss}
-use denote.Enum.Declared.{tag_of}
 use lib.ListN.{length, take, drop}
 use lib.Dec.{ltb}
 use Rattle.types.specs.Base.{if◌then◌else◌}
@@ -27,16 +25,11 @@ use Rattle.trace.specs.Text.{line_text, stop_text, end_text}
 use Rattle.trace.specs.declared.records.Record.{Record}
 use Rattle.trace.specs.declared.records.Entry.{Entry}
 use Rattle.trace.specs.declared.records.Entry.TheVariants as entry
-use Rattle.trace.specs.contracts.records.Entry.{the_type as entry_type}
 use Rattle.replay.specs.Run.{records_from, records, lines_from, lines_without, lines_opened, lines_open, lines_of}
 use Rattle.replay.proofs.Runs.{records-next, records-none}
 
--- the tags of all entries but an open
-abbrev pub other_tags : List ℕ
-other_tags = 1 ∷ 2 ∷ 3 ∷ 4 ∷ 5 ∷ 6 ∷ 7 ∷ 8 ∷ 9 ∷ 10 ∷ 11 ∷ []
-
-pub not-open : (e : Entry) (rest : List Record) → OneOf other_tags (tag_of entry_type e) → lines_open e rest ≡ stop_text 0
-not-open (entry.Open i l r g) rest h = absurd (miss other_tags 0 tt h)
+pub not-open : (e : Entry) (rest : List Record) → ((i : SessionId) (l r : FlowType) (g : FixpConfig) → ¬ (e ≡ entry.Open i l r g)) → lines_open e rest ≡ stop_text 0
+not-open (entry.Open i l r g) rest h = absurd (h i l r g refl)
 not-open (entry.Bind l r n) rest h = refl
 not-open entry.Release rest h = refl
 not-open entry.Application rest h = refl

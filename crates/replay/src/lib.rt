@@ -1,5 +1,7 @@
 //! A trace's records run one after another, a line for each (01, "Trace program").
-ghost use Rattle.std.specs.Prelude.{◌≡◌, ◌≤◌, ◌<◌, ◌+◌, ◌-◌, length, ◌++◌, leb, ltb};
+#![tactic(auto)]
+
+ghost use Rattle.std.specs.Prelude.{◌≡◌, ◌≤◌, ◌<◌, ◌+◌, ◌-◌, length, ◌++◌, leb, ltb, IfOk};
 ghost use Rattle.types.specs.Base.{if◌then◌else◌};
 ghost use Rattle.types.specs.States.{link_status};
 ghost use Rattle.rules.specs.Queries.{next_inbound_seq};
@@ -12,8 +14,8 @@ ghost use Rattle.replay.specs.Run.{goes_on, lines_from, lines_of, records, recor
 use crate::missing::missing_in;
 use crate::ordinary::{Quick, heard, kept_alive, quick_of};
 use calls::Called;
-use libc::STDOUT_FILENO;
 use session::Session;
+use std::io::{self, Read};
 use trace::records::Entry;
 use types::answers::{Answer, Delivery, SessionStatus};
 use types::binding::{Link, MaybeBinding};
@@ -30,10 +32,10 @@ const MAX_INPUT: usize = 65536;
 const MAX_OUTPUT: usize = 524288;
 
 /// The first `n` bytes are written.
-fn write_out(out: &[u8], n: usize)
+fn write_out<R: Print>(rt: &R, out: &[u8], n: usize) -> io::Result<()>
     requires { n ≤ length out.now }
 {
-    io::write_all(STDOUT_FILENO, &out[..n]);
+    rt.write_all(&out[..n])
 }
 
 fn wide(n: usize) -> u64
@@ -266,9 +268,29 @@ pub fn run_trace(s: &[u8], out: &mut [u8]) -> usize
     run_whole(s, out)
 }
 
+/// Room for the lines, in a function of its own: a proof that sees the zeros counts them one by one.
+fn room() -> [u8; MAX_OUTPUT] {
+    [0u8; MAX_OUTPUT]
+}
+
 /// Runs a whole trace and writes its lines.
-pub fn print_trace(s: &[u8]) {
-    let mut out = [0u8; MAX_OUTPUT];
+pub fn print_trace<R: Print>(rt: &R, s: &[u8]) -> io::Result<()> {
+    let mut out = room();
     let n = run_trace(s, &mut out);
-    write_out(&out, n);
+    write_out(rt, &out, n)
+}
+
+/// Reads until the buffer is full or the input ends: how many bytes stand at its start.
+pub fn read_full<R: Read>(reader: &mut R, buf: &mut [u8]) -> io::Result<usize>
+    ensures { IfOk result (λ n. n ≤ length buf.new) }
+{
+    let mut done = 0;
+    while done < buf.len() {
+        let n = reader.read(&mut buf[done..])?;
+        if n == 0 {
+            return Ok(done);
+        }
+        done += n;
+    }
+    Ok(done)
 }

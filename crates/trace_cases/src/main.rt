@@ -1,30 +1,25 @@
 //! Runs each trace that an argument names, one after another: what the Rust answers to them stands in `stdout`.
+#![tactic(auto)]
 
-fn one(k: usize) {
-    let mut path = io::buffer();
-    let length = os::arg(k, &mut path);
-    if os::errno() != 0 {
-        return;
-    }
-    let fd = os::open_read(&path[..length]);
-    if fd < 0 {
-        os::fail(&path[..length]);
-        return;
-    }
+use std::env;
+use std::fs;
+use std::io;
+use std::rt::Files;
+
+fn one<R: Files + Print + Eprint>(rt: &R, path: &str) -> io::Result<()> {
     let mut buf = [0u8; 65537];
-    let n = io::read_full(fd, &mut buf);
-    libc::close(fd);
-    replay::print_trace(&buf[..n]);
-}
-
-fn all(count: usize) {
-    let mut k: usize = 1;
-    while k < count {
-        one(k);
-        k = k + 1;
+    match fs::open(rt, path) {
+        Ok(mut file) => {
+            let n = replay::read_full(&mut file, &mut buf)?;
+            replay::print_trace(rt, &buf[..n])
+        }
+        Err(error) => eprintln!(rt; "{path}: {error}"),
     }
 }
 
-fn main() {
-    all(os::arg_count());
+fn main(rt: HostRuntime) -> io::Result<()> {
+    for path in env::args(&rt)?.skip(1) {
+        one(&rt, path.as_str())?;
+    }
+    Ok(())
 }

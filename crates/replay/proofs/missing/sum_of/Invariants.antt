@@ -1,0 +1,25 @@
+-- What is summed so far and what is left make the whole figure, and one gap goes each turn.
+use borrow.Author.Rules.{rules}
+use Prim.Native.Nat.{ℕ, ◌+◌, ◌-◌, ◌≤◌}
+use native.Mathlib.Omega.{arith}
+use mathlib.Core.Path.{◌≡◌, refl, ap, sym, ◌∙◌}
+use lib.ListN.{length}
+use Rattle.types.specs.Base.{all_ones}
+use Rattle.rules.specs.Lists.{rest}
+use Rattle.rings.specs.View.{GapRingWf, gap_list}
+use Rattle.rings.specs.declared.gap_ring.GapRing.{GapRing}
+use Rattle.rings.proofs.GapLaws.{rest-less}
+use Rattle.replay.specs.Missing.{gap_lengths, at_most}
+use Rattle.replay.proofs.Laws.{at-most-low, at-most-then, at-most-fits, lengths-front, lengths_none}
+use Rattle.replay.proofs.missing.sum_of.Given as goal
+
+pub record Left (ring left : GapRing) (sum : ℕ) : Type 0 where
+  pub order : GapRingWf left
+  pub fits : sum ≤ all_ones
+  pub same : at_most (sum + gap_lengths (gap_list left)) ≡ at_most (gap_lengths (gap_list ring))
+
+abbrev pub invariant-loop-gap : goal.invariant-loop-gap
+invariant-loop-gap l = Left l.initial.left l.left l.sum
+
+abbrev pub decreases-loop-gap : goal.decreases-loop-gap
+decreases-loop-gap l = length (gap_list l.left)

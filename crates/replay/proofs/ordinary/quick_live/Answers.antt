@@ -1,0 +1,11 @@
+-- The ordinary number, below the last one.
+use mathlib.Core.Path.{subst}
+use native.Mathlib.Omega.{arith}
+use Rattle.rules.specs.Names.{MaybeSeq}
+use Rattle.fast.specs.Quick.{Live}
+use Rattle.session.specs.View.{view}
+use borrow.Author.Rules.{rules}
+use Rattle.replay.proofs.ordinary.quick_live.Goals as goal
+
+pub returns : goal.returns
+returns c = record { below = omega (arith, c.if-seq.false); does = subst (λ (r : MaybeSeq). Live r (view c.args.session) c.args.binding) c.in-Some.is c.live.ensures }
