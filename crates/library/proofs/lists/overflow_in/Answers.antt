@@ -1,0 +1,24 @@
+-- Each turn puts the image of one place at its place; after the last the array is the list of images.
+use borrow.Author.Rules.{rules}
+use Prim.Native.Nat.{◌<◌, ◌≤◌, ◌-◌}
+use mathlib.Core.Path.{◌≡◌, refl}
+use native.Mathlib.Omega.{arith}
+use Rattle.rings.proofs.Laws.{long_of}
+use Rattle.library.specs.Parts.{gap_in}
+use Rattle.library.proofs.Copying.{copied, Upto, placed, filled}
+use Rattle.library.proofs.lists.overflow_in.Goals as goal
+
+pub loop-i-init : goal.loop-i-init
+unfolding copied
+loop-i-init c = record { few = search rules; long = search (rules, long_of); room = search (rules, long_of); is = refl }
+
+pub loop-i-preserved : goal.loop-i-preserved
+loop-i-preserved c =
+    let h : c.loop-i.i < 256 = omega arith in
+    placed gap_in c.args.m.slots _ c.loop-i.ring.slots c.loop-i.i 256 _ _ c.loop-i.invariant h c.gap_in-g.ensures
+
+pub returns : goal.returns
+returns c =
+    let h : 256 ≤ c.loop-i.i = omega arith in
+    let e : c.loop-i.ring.slots ≡ _ = filled gap_in c.args.m.slots _ c.loop-i.ring.slots c.loop-i.i 256 c.loop-i.invariant h in
+    λ j. record { slots = e j; head = c.args.m.head; count = c.args.m.count }
