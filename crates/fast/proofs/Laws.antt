@@ -1,16 +1,16 @@
 -- Each rule of the rule book where the ordinary case's tests hold.
 use Prim.Native.Nat.{ℕ, ◌+◌, ◌-◌, ◌<◌, ◌≤◌}
 use mathlib.Core.Path.{◌≡◌, refl, ap, sym, subst, ◌∙◌}
-use mathlib.Core.Bool.{Bool, true, false, not, ◌&&◌, false≢true, true≢false}
-use mathlib.Core.List.{List, [], ◌∷◌, ◌++◌}
+use mathlib.Core.Bool.{Bool, true, false, false≢true}
+use mathlib.Core.List.{List, [], ◌∷◌}
 use native.Mathlib.Omega.{arith}
 use lib.Dec.{leb, ltb, eqb}
 use lib.ListN.{length}
 use borrow.Author.Tests.{le-ltb, le-leb, lt-leb, leb-true, leb-false, ne_eqb, eq-eqb}
 use Rattle.types.specs.Base.{if◌then◌else◌, all_ones, same_id}
 use Rattle.types.specs.Flows.{is_sequenced, is_recoverable, carries_none}
-use Rattle.types.specs.States.{is_closing, is_established, with_received, with_keepalive, with_in_sequence, leave_sequence}
-use Rattle.rules.specs.Names.{SeqNum, Nanotime, Instant, MaybeSeq, Reason, Binding, BindState, FlowType, Gap, Outstanding, Replay, Provider, Retransmission, RetransmitRequest, MaybePeerFinished, MaybeInstant, MaybeProvider}
+use Rattle.types.specs.States.{is_closing, is_established, with_received, with_keepalive, leave_sequence}
+use Rattle.rules.specs.Names.{SeqNum, Nanotime, Instant, Reason, Binding, BindState, FlowType, Gap, Outstanding, Replay, Provider, Retransmission, RetransmitRequest, MaybeInstant, MaybeProvider}
 use Rattle.rules.specs.Names.seq
 use Rattle.rules.specs.Names.flow
 use Rattle.rules.specs.Names.state
@@ -25,7 +25,7 @@ use Rattle.rules.specs.Names.provider
 use Rattle.rules.specs.Names.instant
 use Rattle.rules.specs.Names.gap
 use Rattle.rules.specs.Names.event as ev
-use Rattle.rules.specs.State.{Sess, sess, Did, did, stays, saying, answering, and_then, with_outbound, with_inbound, with_start, with_gaps, with_outstanding, with_replay, with_awaiting, with_provider}
+use Rattle.rules.specs.State.{Sess, sess, did, stays, saying, answering, and_then, with_outbound, with_inbound, with_start, with_gaps, with_outstanding, with_replay, with_awaiting}
 use Rattle.rules.specs.Lists.{is_nil, front_of, rest}
 use Rattle.rings.proofs.GapLaws.{front-some}
 use Rattle.rings.proofs.Laws.{nil-of}
@@ -33,11 +33,10 @@ use Rattle.rules.specs.Outputs.{event, send}
 use Rattle.rules.specs.Gaps.{lists, record_gap, append_gap, received_in_overflow, consume_missing, drop_first}
 use Rattle.rules.specs.Asking.{fewer, asked, ask, request_missing, begin_batch, on_retransmission, in_range, recovered, complete_outstanding, maybe_finish_receiving}
 use Rattle.rules.specs.Serving.{is_sent, serve, on_retransmit_request}
-use Rattle.rules.specs.Numbering.{Counted, progressed, on_gap, gap_recorded, on_replayed, replay_after, replayed_counted, count_delivered, complete_if, accept_replayed, next, accept_live, on_application, on_live, live_on, number_live, outbound_exhausted, allocate_outbound, on_next_seq, stop_replay, announced}
+use Rattle.rules.specs.Numbering.{Counted, progressed, on_gap, gap_recorded, on_replayed, replay_after, replayed_counted, count_delivered, complete_if, accept_replayed, next, accept_live, on_application, on_live, number_live, allocate_outbound, on_next_seq, stop_replay, announced}
 use Rattle.rules.specs.Peer.{on_peer}
-use Rattle.rules.specs.Ending.{finished_receiving_sent}
-use Rattle.rules.specs.Local.{passes, send_refused, send_application, kept_alive, retransmit_refused, retransmit, batch, batch_at}
-use Rattle.rules.specs.Deadlines.{deadline_in, timeout_in, is_due, earlier, earlier_than, silence_deadline, stall_deadline, heartbeat_deadline, next_deadline, stall_if_due, heartbeat_if_due, established_timeout, on_timeout}
+use Rattle.rules.specs.Local.{passes, send_refused, send_application, retransmit_refused, retransmit, batch, batch_at}
+use Rattle.rules.specs.Deadlines.{deadline_in, timeout_in, is_due, earlier, silence_deadline, stall_deadline, heartbeat_deadline, next_deadline, stall_if_due, heartbeat_if_due, established_timeout, on_timeout}
 
 -- ---- flows and states
 pub recoverable-sequenced : (f : FlowType) → is_recoverable f ≡ true → is_sequenced f ≡ true

@@ -1,8 +1,8 @@
 -- What an ordinary call does: where the fields that it looks at say so, the rule book's step is this, whatever the rest of the session is.
 use Rattle.std.specs.Prelude.{ℕ, ◌-◌, ◌≡◌, Bool, true, false, ◌&&◌, [], ◌∷◌, ltb, eqb}
 use Rattle.types.specs.Reasons.{reason_fits}
-use Rattle.types.specs.States.{with_received, with_keepalive, with_in_sequence, leave_sequence}
-use Rattle.rules.specs.Names.{SeqNum, Nanotime, Instant, MaybeSeq, Reason, Binding, Gap, MaybeGap, MaybeOutstanding, MaybeProvider, Provider, Retransmission, RetransmitRequest}
+use Rattle.types.specs.States.{with_received, with_keepalive, leave_sequence}
+use Rattle.rules.specs.Names.{SeqNum, Nanotime, Instant, MaybeSeq, Reason, Binding, MaybeGap, MaybeOutstanding, MaybeProvider, Provider, Retransmission, RetransmitRequest}
 use Rattle.rules.specs.Names.seq
 use Rattle.rules.specs.Names.gap
 use Rattle.rules.specs.Names.peer
@@ -13,7 +13,7 @@ use Rattle.rules.specs.Names.outstanding
 use Rattle.rules.specs.Names.replay
 use Rattle.rules.specs.Names.provider
 use Rattle.rules.specs.Names.event as ev
-use Rattle.rules.specs.State.{Sess, Did, did, stays, with_outbound, with_inbound, with_start, with_gaps, with_outstanding, with_replay, with_awaiting, with_provider}
+use Rattle.rules.specs.State.{Sess, did, stays, with_outbound, with_inbound, with_start, with_gaps, with_outstanding, with_replay, with_awaiting}
 use Rattle.rules.specs.Outputs.{event, send}
 use Rattle.rules.specs.Gaps.{lists}
 use Rattle.rules.specs.Asking.{fewer, asked, begin_batch}

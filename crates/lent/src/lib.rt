@@ -1,5 +1,7 @@
 //! The queue lent: the calls, and the queue's own functions, in the form that fills the caller's queue where it stands (01, "Which shape goes where").
 //! Each takes the queue out, goes through the by-value form and stores the queue back; no proof below is done twice.
+#![tactic(auto)]
+
 ghost use Rattle.std.specs.Prelude.{◌<◌, ◌∷◌, [], length};
 ghost use Rattle.rules.specs.State.{queued};
 ghost use Rattle.rules.specs.Outputs.{send, close_transport};

@@ -1,8 +1,8 @@
 -- Laws of a trace's beginning: its first record is an open, which is refused or begins the run.
 use Prim.Native.Nat.{ℕ, ◌+◌, ◌-◌, ◌<◌, ◌≤◌}
 use mathlib.Core.Path.{◌≡◌, refl, ap, sym, ◌∙◌}
-use mathlib.Core.Bool.{Bool, true, false, false≢true, true≢false}
-use mathlib.Core.List.{List, [], ◌∷◌, ◌++◌, append_assoc}
+use mathlib.Core.Bool.{true, false, false≢true, true≢false}
+use mathlib.Core.List.{List, ◌++◌, append_assoc}
 use native.Mathlib.Omega.{arith}
 use native.Mathlib.Decide.{dec_lt}
 use borrow.Author.Tests.{lt-ltb, le-ltb}
@@ -10,12 +10,12 @@ use lib.ListN.{length, take, drop}
 use lib.Dec.{ltb}
 use Rattle.types.specs.Base.{if◌then◌else◌}
 use Rattle.types.specs.States.{link_status}
-use Rattle.rules.specs.Names.{SessionId, FlowType, FixpConfig, Refusal}
+use Rattle.rules.specs.Names.{SessionId, FlowType, FixpConfig}
 use Rattle.rules.specs.Names.seq
 use Rattle.rules.specs.Names.status
 use Rattle.rules.specs.Queries.{next_inbound_seq}
 use Rattle.rules.specs.Local.{Refused, passes, refuses}
-use Rattle.rules.specs.Calls.{World, Ran, opening, opened}
+use Rattle.rules.specs.Calls.{Ran, opening, opened}
 use Rattle.session.specs.View.{view}
 use Rattle.calls.specs.View.{world_of, Done, opened_as, is_refused}
 use Rattle.calls.specs.declared.Called.{Called}

@@ -1,22 +1,17 @@
 -- Laws of a run: the records one behind another, what a record leaves, and how the lines go on.
 use Prim.Native.Nat.{ℕ, zero, suc, ◌+◌, ◌-◌, ◌*◌, ◌<◌, ◌≤◌}
 use mathlib.Core.Path.{◌≡◌, refl, ap, sym, subst, ◌∙◌}
-use mathlib.Core.Bool.{Bool, true, false, ◌&&◌, false≢true}
-use mathlib.Core.List.{List, [], ◌∷◌, ◌++◌, append_assoc, append-nil}
+use mathlib.Core.Bool.{Bool, true, false, false≢true}
+use mathlib.Core.List.{List, [], ◌∷◌, ◌++◌, append_assoc}
 use native.Mathlib.Omega.{arith}
-use borrow.Author.Tests.{lt-ltb, le-ltb, le-leb, leb-true, eq-eqb, eqb-true}
+use borrow.Author.Tests.{lt-ltb, le-ltb, le-leb, leb-true}
 use lib.ListN.{length, take, drop}
-use lib.Dec.{leb, ltb, eqb}
+use lib.Dec.{leb}
 use Rattle.types.specs.Base.{if◌then◌else◌}
 use Rattle.types.specs.States.{link_status}
-use Rattle.types.specs.Reasons.{reason_fits}
-use Rattle.rules.specs.Names.{SessionId, FlowType, FixpConfig, Link, Answer, Binding, Output}
-use Rattle.rules.specs.Names.bound
-use Rattle.rules.specs.Names.linked
-use Rattle.rules.specs.State.{Sess, Queue, queued, Did, did}
+use Rattle.rules.specs.Names.{SessionId, FlowType, FixpConfig, Link, Answer, Output}
 use Rattle.rules.specs.Queries.{next_inbound_seq}
-use Rattle.rules.specs.Local.{passes}
-use Rattle.rules.specs.Calls.{World, Call, wrong, does, Ran, ran_as, ran_if, call}
+use Rattle.rules.specs.Calls.{World, Ran, call}
 use Rattle.rings.specs.Ring.{ring_list}
 use Rattle.rings.specs.View.{gap_list, sound_gaps, GapsWf}
 use Rattle.rings.specs.declared.gaps.Gaps.{Gaps}
@@ -24,10 +19,10 @@ use Rattle.queue.specs.View.{queue_of, outs_of, OutsWf}
 use Rattle.queue.specs.declared.Outputs.{Outputs}
 use Rattle.session.specs.View.{view, SessWf}
 use Rattle.session.specs.declared.Session.{Session}
-use Rattle.calls.specs.View.{world_of, view_called, Answered}
+use Rattle.calls.specs.View.{world_of, Answered}
 use Rattle.calls.specs.declared.Called.{Called}
 use Rattle.promises.proofs.InOrder.{in-order-is-the-rule, in-order-after}
-use Rattle.trace.specs.Format.{decode, framed, header, u16_at}
+use Rattle.trace.specs.Format.{decode, framed, header}
 use Rattle.trace.specs.Places.{size_at}
 use Rattle.trace.specs.Text.{line_text, stop_text, end_text, Adds}
 use Rattle.trace.specs.declared.records.Record.{Record}

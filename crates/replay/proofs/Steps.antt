@@ -1,28 +1,25 @@
 -- An ordinary record: the few fields that are stored are what the rule book's call leaves.
-use Prim.Native.Nat.{ℕ, ◌+◌, ◌<◌, ◌≤◌}
 use mathlib.Core.Path.{◌≡◌, refl, ap, sym, subst, ◌∙◌}
 use mathlib.Core.Bool.{Bool, true, false, ◌&&◌, ◌||◌}
-use mathlib.Core.List.{List, [], ◌∷◌, ◌++◌}
+use mathlib.Core.List.{List, []}
 use native.Mathlib.Omega.{arith}
-use borrow.Author.Tests.{ltb-true, lt-ltb, le-leb, eqb-true}
+use borrow.Author.Tests.{le-leb, eqb-true}
 use lib.ListN.{length}
 use lib.Dec.{leb, ltb, eqb}
-use Rattle.types.specs.Base.{if◌then◌else◌}
 use Rattle.types.specs.States.{with_received, with_keepalive}
 use Rattle.types.specs.Reasons.{reason_fits}
 use Rattle.types.specs.declared.parts.SeqSlot.{SeqSlot}
-use Rattle.rules.specs.Names.{SeqNum, Nanotime, Instant, Reason, Link, Answer, Binding, MaybeBinding, Output, PeerMessage, Refusal}
+use Rattle.rules.specs.Names.{SeqNum, Nanotime, Instant, Reason, Link, Answer, Binding, Output, PeerMessage}
 use Rattle.rules.specs.Names.seq
 use Rattle.rules.specs.Names.peer
 use Rattle.rules.specs.Names.bound
 use Rattle.rules.specs.Names.linked
 use Rattle.rules.specs.Names.answer
-use Rattle.rules.specs.Names.refusal
-use Rattle.rules.specs.State.{Sess, Queue, queued, closes, Did, did, with_outbound}
+use Rattle.rules.specs.State.{queued, closes, did, with_outbound}
 use Rattle.rules.specs.Numbering.{next, accept_live, on_application}
 use Rattle.rules.specs.Peer.{on_peer}
-use Rattle.rules.specs.Local.{Refused, passes, unless, send_refused, send_application}
-use Rattle.rules.specs.Calls.{World, Call, peer_call, application_call, send_call, wrong, does, Ran, ran_as, ran_if, call, sound, has_room, config_fits, max_outs, texts_fit}
+use Rattle.rules.specs.Local.{passes, send_refused, send_application}
+use Rattle.rules.specs.Calls.{Call, peer_call, application_call, send_call, wrong, does, Ran, ran_as, ran_if, call, sound, has_room, config_fits, max_outs}
 use Rattle.rings.specs.View.{sound_gaps}
 use Rattle.queue.specs.View.{queue_of, outs_of, OutsWf}
 use Rattle.queue.specs.declared.Outputs.{Outputs}

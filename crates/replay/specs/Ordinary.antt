@@ -2,7 +2,7 @@
 use Rattle.std.specs.Prelude.{◌<◌, ◌≡◌, true}
 use Rattle.types.specs.Base.{all_ones}
 use Rattle.types.specs.States.{with_received, with_keepalive}
-use Rattle.rules.specs.Names.{SeqNum, Instant, Binding, MaybeBinding, Link, PeerMessage, Reason}
+use Rattle.rules.specs.Names.{SeqNum, Instant, Binding, MaybeBinding, Link, PeerMessage}
 use Rattle.rules.specs.Names.seq
 use Rattle.rules.specs.Names.peer
 use Rattle.rules.specs.Names.linked

@@ -2,7 +2,6 @@
 use Rattle.std.specs.Prelude.{ℕ, zero, suc, ◌+◌, ◌≤◌, ◌≡◌, Bool, true, false, List, [], ◌∷◌, ◌++◌, length, take, drop, leb, ltb}
 use Rattle.types.specs.Base.{if◌then◌else◌}
 use Rattle.types.specs.States.{link_status}
-use Rattle.rules.specs.Names.{Answer}
 use Rattle.rules.specs.Names.seq
 use Rattle.rules.specs.Names.status
 use Rattle.rules.specs.Names.answer

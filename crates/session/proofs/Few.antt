@@ -1,8 +1,8 @@
 -- How many outputs a step adds that leaves the binding standing: few enough that another step has room after it.
 use Prim.Native.Nat.{ℕ, ◌+◌, ◌-◌, ◌≤◌, ◌^◌}
-use mathlib.Core.Path.{◌≡◌, refl}
+use mathlib.Core.Path.{◌≡◌}
 use mathlib.Core.Bool.{Bool, true, false, not, ◌&&◌, ◌||◌, false≢true}
-use mathlib.Core.List.{List, [], ◌∷◌, ◌++◌}
+use mathlib.Core.List.{[], ◌∷◌}
 use native.Mathlib.Omega.{arith}
 use lib.ListN.{length, length-append}
 use lib.Dec.{ltb, leb, eqb}
@@ -19,7 +19,7 @@ use Rattle.rules.specs.Names.finished
 use Rattle.rules.specs.Lists.{is_nil, front_of}
 use Rattle.rules.specs.State.{Sess, Did, saying, answering, with_inbound, with_start, with_gaps, with_replay}
 use Rattle.rules.specs.Outputs.{close_transport}
-use Rattle.rules.specs.Gaps.{Kept, record_gap, hold_refused_gap, received_in_overflow}
+use Rattle.rules.specs.Gaps.{record_gap, hold_refused_gap, received_in_overflow}
 use Rattle.rules.specs.Ending.{fail, violation}
 use Rattle.rules.specs.Asking.{is_outstanding, ask, ask_for, request_missing, finish_at, maybe_finish_receiving, recovered, complete_outstanding}
 use Rattle.rules.specs.Numbering.{outbound_exhausted, allocate_outbound, send_application_of, not_applied_numbered, not_applied_on, send_not_applied, gap_held, gap_recorded, gap_reported, gap_on, on_gap, past_finished, stop_replay, announced_to, announced, on_next_seq, discard, replay_after, Counted, count_delivered, complete_if, replayed_counted, on_replayed, numbered_as, number_live, live_on, is_peer_finished, on_live, arrived_in, on_application}

@@ -1,10 +1,10 @@
 -- How steps are put together: outputs before a step, a step after a step, another answer, and the room that outputs leave.
 use Prim.Native.Nat.{ℕ, ◌+◌, ◌-◌, ◌<◌, ◌≤◌}
 use mathlib.Core.Path.{◌≡◌, refl, ap, sym, ◌∙◌}
-use mathlib.Core.Bool.{Bool, true, false, not}
+use mathlib.Core.Bool.{Bool, true, false}
 use mathlib.Core.List.{List, [], ◌∷◌, ◌++◌}
 use lib.ListN.{length, length-append}
-use borrow.Author.Tests.{not-true, not-false, eq-eqb, ne_eqb, eqb-true, eqb-false}
+use borrow.Author.Tests.{eq-eqb, ne_eqb, eqb-true, eqb-false}
 use native.Mathlib.Omega.{arith}
 use lib.Dec.{eqb}
 use Rattle.types.specs.Base.{if◌then◌else◌}
@@ -15,12 +15,10 @@ use Rattle.rules.specs.Numbering.{allocate_outbound}
 use Rattle.rules.specs.Names.{Output, Binding, Answer}
 use Rattle.rules.specs.Names.bound
 use Rattle.rules.specs.State.{Sess, Queue, queued, Did, did, saying, answering, and_then}
-use Rattle.queue.specs.View.{queue_of, OutsWf}
+use Rattle.queue.specs.View.{queue_of}
 use Rattle.queue.proofs.Laws.{queued-append, queued-none}
-use Rattle.session.specs.View.{view, SessWf, StepIs, After, after, with_answer}
-use Rattle.session.specs.declared.Session.{Session}
+use Rattle.session.specs.View.{view, StepIs, After, after, with_answer}
 use Rattle.session.specs.declared.Step.{Step}
-use Rattle.queue.specs.declared.Outputs.{Outputs}
 use borrow.Author.Tests.{le-leb, lt-leb, leb-true, leb-false}
 use lib.Dec.{leb}
 use Rattle.types.specs.Base.{all_ones, deadline_at}

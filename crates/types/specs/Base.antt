@@ -1,7 +1,6 @@
 -- What every rule is written with: a choice, the largest number, and a sum that may not fit.
-use Rattle.std.specs.Prelude.{ℕ, ◌+◌, Bool, true, false, ◌&&◌, eqb, leb}
+use Rattle.std.specs.Prelude.{ℕ, Bool, true, false, ◌&&◌, eqb, leb}
 use Rattle.types.specs.declared.ids.SessionId.{SessionId}
-use Rattle.types.specs.declared.ids.Instant.{Instant}
 use Rattle.types.specs.declared.ids.MaybeInstant.{MaybeInstant}
 use Rattle.types.specs.declared.ids.MaybeInstant.TheVariants.{Some, None}
 

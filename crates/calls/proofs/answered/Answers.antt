@@ -1,5 +1,4 @@
 -- By whether the binding stands.
-use borrow.Author.Rules.{rules}
 use mathlib.Core.Path.{◌≡◌, refl, sym, ◌∙◌}
 use mathlib.Core.Bool.{true, false}
 use Rattle.types.specs.States.{is_stay}

@@ -1,5 +1,4 @@
 -- Refused in the order of the table, then of the Rust; else the step.
-use borrow.Author.Rules.{rules}
 use mathlib.Core.Path.{◌∙◌}
 use Rattle.rules.specs.Local.{end_refused, end_retransmission}
 use Rattle.rules.specs.Calls.{within}

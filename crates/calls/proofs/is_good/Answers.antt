@@ -1,5 +1,4 @@
 -- The tests in the order of the rule.
-use borrow.Author.Rules.{rules}
 use Rattle.session.proofs.Laws.{is_false, is_true}
 use Rattle.calls.specs.View.{good_record}
 use Rattle.calls.proofs.is_good.Goals as goal

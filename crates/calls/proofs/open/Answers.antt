@@ -1,5 +1,4 @@
 -- Only the configuration is looked at; each part is the new one.
-use borrow.Author.Rules.{rules}
 use native.Mathlib.Omega.{arith}
 use mathlib.Core.Path.{ap, ◌∙◌}
 use Rattle.rules.specs.Names.{FixpConfig}

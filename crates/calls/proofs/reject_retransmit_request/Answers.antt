@@ -1,5 +1,4 @@
 -- Refused in the order of the table, then of the Rust; else the step.
-use borrow.Author.Rules.{rules}
 use borrow.Author.Tests.{leb-true}
 use native.Mathlib.Omega.{arith}
 use Prim.Native.Nat.{◌+◌}

@@ -1,5 +1,4 @@
 -- Nothing but a bad record refuses it.
-use borrow.Author.Rules.{rules}
 use Rattle.rules.specs.Names.answer
 use Rattle.rules.specs.Local.{passes}
 use Rattle.queue.specs.View.{queue_of}

@@ -1,5 +1,4 @@
 -- No binding, and no reason beside it.
-use borrow.Author.Rules.{rules}
 use mathlib.Core.Path.{ap}
 use Rattle.rules.specs.Names.{Reason}
 use Rattle.rules.specs.Names.linked

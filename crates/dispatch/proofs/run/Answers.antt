@@ -1,5 +1,4 @@
 -- By the entry: each is the call that it names.
-use borrow.Author.Rules.{rules}
 use Rattle.dispatch.proofs.run.Goals as goal
 
 pub returns-in-Open : goal.returns-in-Open

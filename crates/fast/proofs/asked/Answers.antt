@@ -1,5 +1,4 @@
 -- Every check of serving passes.
-use borrow.Author.Rules.{rules}
 use borrow.Author.Tests.{le-ltb, ne_eqb}
 use native.Mathlib.Omega.{arith}
 use Rattle.session.specs.View.{view}

@@ -1,5 +1,4 @@
 -- Nothing refuses it.
-use borrow.Author.Rules.{rules}
 use borrow.Author.Tests.{ne_eqb}
 use native.Mathlib.Omega.{arith}
 use Rattle.session.specs.View.{view}

@@ -1,5 +1,4 @@
 -- It matches the request in flight.
-use borrow.Author.Rules.{rules}
 use borrow.Author.Tests.{eq-eqb}
 use native.Mathlib.Omega.{arith}
 use Rattle.session.specs.View.{view}

@@ -1,5 +1,4 @@
 -- The next deadline is that of all timers, and it is not reached.
-use borrow.Author.Rules.{rules}
 use borrow.Author.Tests.{lt-leb}
 use native.Mathlib.Omega.{arith}
 use mathlib.Core.Path.{ap, sym, ◌∙◌}

@@ -1,5 +1,4 @@
 -- The tests in the order of the definition.
-use borrow.Author.Rules.{rules}
 use borrow.Author.Tests.{ne_eqb, eq-eqb}
 use native.Mathlib.Omega.{arith}
 use Rattle.session.proofs.Laws.{is_false, is_true}

@@ -1,5 +1,4 @@
 -- None of the tests that lead elsewhere is_true.
-use borrow.Author.Rules.{rules}
 use borrow.Author.Tests.{ne_eqb}
 use Rattle.session.specs.View.{view}
 use Rattle.session.proofs.Laws.{is_true, is_false}

@@ -1,5 +1,4 @@
 -- The gap is the first, and is asked for.
-use borrow.Author.Rules.{rules}
 use borrow.Author.Tests.{le-ltb, lt-leb, ne_eqb}
 use native.Mathlib.Omega.{arith}
 use Prim.Native.Nat.{◌-◌}

@@ -1,5 +1,4 @@
 -- The message completes the request, and the request takes the only gap.
-use borrow.Author.Rules.{rules}
 use borrow.Author.Tests.{le-ltb, le-leb, ne_eqb}
 use native.Mathlib.Omega.{arith}
 use mathlib.Core.Path.{◌≡◌, sym, ◌∙◌}

@@ -1,5 +1,4 @@
 -- The number is the expected one, and nothing else is to be done.
-use borrow.Author.Rules.{rules}
 use borrow.Author.Tests.{ne_eqb}
 use native.Mathlib.Omega.{arith}
 use Rattle.session.specs.View.{view}

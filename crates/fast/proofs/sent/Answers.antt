@@ -1,5 +1,4 @@
 -- Nothing refuses it, and the receiver can number it by itself.
-use borrow.Author.Rules.{rules}
 use borrow.Author.Tests.{lt-leb, not-false}
 use native.Mathlib.Omega.{arith}
 use Prim.Native.Nat.{◌-◌}

@@ -1,5 +1,4 @@
 -- Of a good record the session's own answer.
-use borrow.Author.Rules.{rules}
 use mathlib.Core.Path.{ap}
 use mathlib.Core.Bool.{Bool}
 use Rattle.session.proofs.Laws.{is_false, is_true}

@@ -1,5 +1,4 @@
 -- Unbound there is none; else the session's own answer.
-use borrow.Author.Rules.{rules}
 use mathlib.Core.Path.{ap}
 use Rattle.rules.specs.Names.{MaybeBinding, MaybeInstant}
 use Rattle.rules.specs.Calls.{deadline_of}

@@ -1,5 +1,4 @@
 -- Its text is the one of no bytes.
-use borrow.Author.Rules.{rules}
 use Rattle.rules.specs.Names.said
 use Rattle.reading.proofs.no_output.Goals as goal
 

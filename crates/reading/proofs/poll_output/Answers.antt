@@ -1,5 +1,4 @@
 -- By whether there is an output; what the queue gives is the first.
-use borrow.Author.Rules.{rules}
 use mathlib.Core.Path.{sym, ◌∙◌}
 use Rattle.rules.specs.Names.refusal
 use Rattle.queue.specs.View.{queue_of}

@@ -1,5 +1,4 @@
 -- Unbound, or as the binding says.
-use borrow.Author.Rules.{rules}
 use mathlib.Core.Path.{ap}
 use Rattle.rules.specs.Names.{MaybeBinding, SessionStatus}
 use Rattle.types.specs.States.{link_status}

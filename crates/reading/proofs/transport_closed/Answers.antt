@@ -1,5 +1,4 @@
 -- The queue's own answer.
-use borrow.Author.Rules.{rules}
 use mathlib.Core.Path.{refl}
 use Rattle.session.proofs.Laws.{is_false, is_true}
 use Rattle.calls.proofs.Laws.{good-queue}

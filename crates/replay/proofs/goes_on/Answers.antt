@@ -1,5 +1,4 @@
 -- An open and a malformed record end the run; each arm says so of its own.
-use borrow.Author.Rules.{rules}
 use Rattle.replay.proofs.goes_on.Goals as goal
 
 pub returns-in-Open : goal.returns-in-Open

@@ -1,5 +1,4 @@
 -- The line's fields are what the session and its binding say of themselves.
-use borrow.Author.Rules.{rules}
 use mathlib.Core.Path.{◌∙◌}
 use Rattle.trace.specs.Text.{line_text}
 use Rattle.trace.proofs.Lines.{adds-as}

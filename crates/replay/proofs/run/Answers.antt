@@ -1,21 +1,17 @@
 -- What was printed and what the records from here on print are the goal: each record adds its line and leaves what its call leaves.
-use borrow.Author.Rules.{rules}
 use Prim.Native.Nat.{◌-◌}
-use mathlib.Core.Path.{◌≡◌, refl, ap, subst, ◌∙◌}
-use mathlib.Core.Logic.{⊎_elim}
-use mathlib.Core.List.{◌++◌}
+use mathlib.Core.Path.{refl, ap, subst, ◌∙◌}
 use native.Mathlib.Omega.{arith}
-use lib.ListN.{length, take, drop}
+use lib.ListN.{length}
 use Rattle.session.proofs.Laws.{is_true, is_false}
 use Rattle.calls.specs.View.{world_of}
 use Rattle.trace.specs.Format.{decode}
-use Rattle.trace.specs.Places.{size_at}
 use Rattle.trace.specs.declared.records.Record.{Record}
-use Rattle.replay.specs.Run.{goes_on, lines_from, records_from}
+use Rattle.replay.specs.Run.{goes_on}
 use Rattle.replay.specs.Ordinary.{QuickIs}
 use Rattle.replay.specs.declared.ordinary.Quick.{Quick}
 use Rattle.replay.proofs.Found.{live_below, sent-below}
-use Rattle.replay.proofs.Runs.{Running, Stepped, stepped-as, plain-steps, runs_on, runs-stop, runs-end, goes-on-framed, sound-missing}
+use Rattle.replay.proofs.Runs.{Stepped, stepped-as, plain-steps, runs_on, runs-stop, runs-end, goes-on-framed, sound-missing}
 use Rattle.replay.proofs.Steps.{live-steps, same-steps, sent-steps}
 use Rattle.replay.proofs.run.Goals as goal
 use Rattle.replay.proofs.run.Goals.{in-Live, in-Same, in-Sent, in-No}
@@ -62,12 +58,12 @@ loop-at-preserved c =
     let w = world_of s l q in
     let it = c.quick_of-quick.ensures in
     let stepped : Stepped r w m.session m.link m.queue m.answer m.outputs =
-      elim m.branch [
-        in-Live v ↦ stepped-as r w _ _ _ _ _ _ _ _ _ _ v.session-is (v.link-is ∙ v.heard-link.ensures) v.queue-is v.answer-is v.outputs-is (live-steps r s l q v.in-Live.seq (subst (λ (x : Quick). QuickIs x r s l q) v.in-Live.is it))
+    elim m.branch [
+      | in-Live v ↦ stepped-as r w _ _ _ _ _ _ _ _ _ _ v.session-is (v.link-is ∙ v.heard-link.ensures) v.queue-is v.answer-is v.outputs-is (live-steps r s l q v.in-Live.seq (subst (λ (x : Quick). QuickIs x r s l q) v.in-Live.is it))
       | in-Same v ↦ stepped-as r w _ _ _ _ _ _ _ _ _ _ v.session-is (v.link-is ∙ v.heard-link-in-Same.ensures) v.queue-is v.answer-is v.outputs-is (same-steps r s l q (subst (λ (x : Quick). QuickIs x r s l q) v.in-Same.is it))
       | in-Sent v ↦ stepped-as r w _ _ _ _ _ _ _ _ _ _ v.session-is (v.link-is ∙ v.kept_alive-link.ensures) v.queue-is v.answer-is v.outputs-is (sent-steps r s l q v.in-Sent.seq (subst (λ (x : Quick). QuickIs x r s l q) v.in-Sent.is it))
       | in-No v ↦ stepped-as r w _ _ _ _ _ _ _ _ _ _ v.session-is v.link-is v.queue-is v.answer-is (v.outputs-is ∙ v.wide-outputs.ensures ∙ v.len.ensures) (plain-steps r s l q v.run-done.result c.loop-at.invariant.session_wf c.loop-at.invariant.queue_wf v.run-done.ensures)
-      ]
+    ]
     in
     runs_on _ _ _ _ _ _ _ _ _ _ c.loop-at.invariant c.loop-at-test.true r (c.read_record-record.ensures ∙ ap decode c.view-r.ensures.part.bytes) (is_true c.goes_on.ensures c.if-not-goes_on.false) m.session m.link m.queue m.answer m.outputs stepped c.line_of-wrote.new.out c.line_of-wrote.result c.line_of-wrote.ensures c.line_of-wrote.auto.out _ c.view-r.ensures.size long c.view-r.ensures.inside
 

@@ -1,5 +1,4 @@
 -- A record behind the refused open stops the run.
-use borrow.Author.Rules.{rules}
 use borrow.Author.Tests.{lt-ltb, le-ltb}
 use lib.ListN.{length}
 use Rattle.replay.proofs.run_refused.Goals as goal

@@ -1,5 +1,4 @@
 -- A buffer too short is not touched; an input too long has one line; else the whole text.
-use borrow.Author.Rules.{rules}
 use native.Mathlib.Omega.{arith}
 use mathlib.Core.Path.{refl}
 use borrow.Author.Tests.{le-leb, lt-leb}

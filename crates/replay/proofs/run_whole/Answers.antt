@@ -1,12 +1,11 @@
 -- The first line, and then the last one or what the records print.
-use borrow.Author.Rules.{rules}
 use native.Mathlib.Omega.{arith}
-use mathlib.Core.Path.{◌≡◌, refl, ap, sym, ◌∙◌}
-use mathlib.Core.List.{List, [], ◌++◌}
+use mathlib.Core.Path.{refl, ap, sym}
+use mathlib.Core.List.{List, ◌++◌}
 use Rattle.trace.specs.declared.records.Record.{Record}
 use lib.ListN.{length}
 use Rattle.trace.specs.Text.{first_text}
-use Rattle.replay.specs.Run.{lines_of, records}
+use Rattle.replay.specs.Run.{lines_of}
 use Rattle.replay.proofs.Opens.{prints-then}
 use Rattle.replay.proofs.Runs.{records-none}
 use Rattle.replay.proofs.run_whole.Goals as goal

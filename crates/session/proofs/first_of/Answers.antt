@@ -1,6 +1,4 @@
 -- Sequenced flows start at 1.
-use borrow.Author.Rules.{rules}
-use Prim.Native.Nat.{◌-◌}
 use Rattle.session.proofs.Laws.{is_true, is_false}
 use Rattle.session.proofs.first_of.Goals as goal
 

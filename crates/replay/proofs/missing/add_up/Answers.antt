@@ -1,5 +1,4 @@
 -- The test is that the sum is at most 2^64-1.
-use borrow.Author.Rules.{rules}
 use native.Mathlib.Omega.{arith}
 use Prim.Native.Nat.{◌+◌, ◌≤◌, ◌<◌}
 use mathlib.Core.Path.{sym}

@@ -1,5 +1,4 @@
 -- Gaps that pass the record check have their rings in order.
-use borrow.Author.Rules.{rules}
 use Rattle.rings.proofs.GapLaws.{sound-wf}
 use Rattle.session.proofs.Laws.{is_false, is_true}
 use Rattle.replay.proofs.missing.missing_in.Goals as goal

@@ -1,17 +1,12 @@
 -- What is summed so far and what is left make the whole figure, and one gap goes each turn.
-use borrow.Author.Rules.{rules}
-use Prim.Native.Nat.{ℕ, ◌+◌, ◌-◌, ◌≤◌}
+use Prim.Native.Nat.{ℕ, ◌+◌, ◌-◌}
 use native.Mathlib.Omega.{arith}
-use mathlib.Core.Path.{◌≡◌, refl, ap, sym, ◌∙◌}
-use lib.ListN.{length}
-use Rattle.types.specs.Base.{all_ones}
+use mathlib.Core.Path.{◌≡◌, ap, sym, ◌∙◌}
 use Rattle.rules.specs.Lists.{rest}
-use Rattle.rings.specs.View.{GapRingWf, gap_list}
-use Rattle.rings.specs.declared.gap_ring.GapRing.{GapRing}
+use Rattle.rings.specs.View.{gap_list}
 use Rattle.rings.proofs.GapLaws.{rest-less}
 use Rattle.replay.specs.Missing.{gap_lengths, at_most}
 use Rattle.replay.proofs.Laws.{at-most-low, at-most-then, at-most-fits, lengths-front, lengths_none}
-use Rattle.replay.proofs.missing.sum_of.Invariants.{Left}
 use Rattle.replay.proofs.missing.sum_of.Goals as goal
 
 pub loop-gap-init : goal.loop-gap-init

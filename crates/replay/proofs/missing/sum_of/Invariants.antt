@@ -1,16 +1,11 @@
 -- What is summed so far and what is left make the whole figure, and one gap goes each turn.
-use borrow.Author.Rules.{rules}
-use Prim.Native.Nat.{ℕ, ◌+◌, ◌-◌, ◌≤◌}
-use native.Mathlib.Omega.{arith}
-use mathlib.Core.Path.{◌≡◌, refl, ap, sym, ◌∙◌}
+use Prim.Native.Nat.{ℕ, ◌+◌, ◌≤◌}
+use mathlib.Core.Path.{◌≡◌}
 use lib.ListN.{length}
 use Rattle.types.specs.Base.{all_ones}
-use Rattle.rules.specs.Lists.{rest}
 use Rattle.rings.specs.View.{GapRingWf, gap_list}
 use Rattle.rings.specs.declared.gap_ring.GapRing.{GapRing}
-use Rattle.rings.proofs.GapLaws.{rest-less}
 use Rattle.replay.specs.Missing.{gap_lengths, at_most}
-use Rattle.replay.proofs.Laws.{at-most-low, at-most-then, at-most-fits, lengths-front, lengths_none}
 use Rattle.replay.proofs.missing.sum_of.Given as goal
 
 pub record Left (ring left : GapRing) (sum : ℕ) : Type 0 where

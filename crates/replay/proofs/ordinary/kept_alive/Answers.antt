@@ -1,5 +1,4 @@
 -- Only the time of the last message to the peer is another.
-use borrow.Author.Rules.{rules}
 use Rattle.types.specs.States.{with_keepalive}
 use Rattle.replay.proofs.Links.{then-none, then-bound}
 use Rattle.replay.proofs.ordinary.kept_alive.Goals as goal

@@ -4,7 +4,6 @@ use native.Mathlib.Omega.{arith}
 use Rattle.rules.specs.Names.{MaybeSeq}
 use Rattle.fast.specs.Quick.{Live}
 use Rattle.session.specs.View.{view}
-use borrow.Author.Rules.{rules}
 use Rattle.replay.proofs.ordinary.quick_live.Goals as goal
 
 pub returns : goal.returns

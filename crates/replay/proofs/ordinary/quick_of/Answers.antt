@@ -1,7 +1,6 @@
 -- By the kind of the record, where it is bound and good.
 use Rattle.session.proofs.Laws.{is_true}
 use Rattle.replay.proofs.Found.{found-live, found-same, found-sent}
-use borrow.Author.Rules.{rules}
 use Rattle.replay.proofs.ordinary.quick_of.Goals as goal
 
 pub returns-in-Application : goal.returns-in-Application

@@ -2,10 +2,8 @@
 use mathlib.Core.Path.{refl, subst}
 use mathlib.Core.Bool.{Bool}
 use native.Mathlib.Omega.{arith}
-use borrow.Author.Tests.{not-false}
 use Rattle.fast.specs.Quick.{Sent}
 use Rattle.session.specs.View.{view}
-use borrow.Author.Rules.{rules}
 use Rattle.replay.proofs.ordinary.quick_send.Goals as goal
 
 pub returns : goal.returns

@@ -3,7 +3,6 @@ use mathlib.Core.Path.{subst}
 use mathlib.Core.Bool.{Bool}
 use Rattle.fast.specs.Quick.{Same}
 use Rattle.session.specs.View.{view}
-use borrow.Author.Rules.{rules}
 use Rattle.replay.proofs.ordinary.quick_sequence.Goals as goal
 
 pub returns-then-same : goal.returns-then-same

@@ -1,7 +1,6 @@
 -- The rejection is told, its whole count consumed, and what is left asked for.
-use borrow.Author.Rules.{rules}
 use native.Mathlib.Omega.{arith}
-use Prim.Native.Nat.{ℕ, ◌-◌}
+use Prim.Native.Nat.{ℕ}
 use mathlib.Core.Path.{ap, sym, ◌∙◌}
 use Rattle.rules.specs.Names.outstanding
 use Rattle.rules.specs.Names.replay

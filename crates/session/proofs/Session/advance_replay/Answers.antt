@@ -1,7 +1,5 @@
 -- One less remains, and the next number is one more; the last one ends the batch.
-use borrow.Author.Rules.{rules}
 use borrow.Author.Tests.{le-leb, lt-leb}
-use Prim.Native.Nat.{◌-◌}
 use mathlib.Core.Path.{refl}
 use Rattle.rules.specs.Numbering.{replay_after}
 use Rattle.session.proofs.Session.advance_replay.Goals as goal

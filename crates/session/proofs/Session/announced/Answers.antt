@@ -1,7 +1,5 @@
 -- The first announcement sets the number; then it is compared with the expected one.
-use borrow.Author.Rules.{rules}
 use borrow.Author.Tests.{eq-eqb, ne_eqb, lt-ltb, le-ltb}
-use Prim.Native.Nat.{◌-◌}
 use mathlib.Core.Path.{ap}
 use mathlib.Core.List.{[]}
 use mathlib.Core.Bool.{Bool, false}

@@ -1,6 +1,4 @@
 -- The request goes out, and stands as outstanding with nothing delivered.
-use borrow.Author.Rules.{rules}
-use Prim.Native.Nat.{◌-◌}
 use Rattle.rules.specs.State.{saying}
 use Rattle.rules.specs.Asking.{ask}
 use Rattle.session.proofs.Laws.{said}

@@ -1,6 +1,4 @@
 -- The header starts at the first number not yet sent, and what is left to serve is less by the count.
-use borrow.Author.Rules.{rules}
-use Prim.Native.Nat.{◌-◌}
 use Rattle.rules.specs.State.{saying}
 use Rattle.rules.specs.Local.{batch}
 use Rattle.session.proofs.Laws.{said}

@@ -1,6 +1,4 @@
 -- What an earlier binding had is released, and the new one begins now.
-use borrow.Author.Rules.{rules}
-use Prim.Native.Nat.{◌-◌}
 use Rattle.rules.specs.Binding.{bind}
 use Rattle.session.proofs.Session.bind.Goals as goal
 

@@ -1,6 +1,4 @@
 -- By the test.
-use borrow.Author.Rules.{rules}
-use Prim.Native.Nat.{◌-◌}
 use Rattle.rules.specs.Numbering.{complete_if}
 use Rattle.session.proofs.Session.complete_if.Goals as goal
 

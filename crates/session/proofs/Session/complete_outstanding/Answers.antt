@@ -1,6 +1,4 @@
 -- What the request asked for is consumed, and its batch is over.
-use borrow.Author.Rules.{rules}
-use Prim.Native.Nat.{◌-◌}
 use mathlib.Core.Path.{ap, sym}
 use Rattle.rules.specs.Names.replay
 use Rattle.rules.specs.State.{Sess, with_replay}

@@ -1,6 +1,4 @@
 -- The gaps alone change.
-use borrow.Author.Rules.{rules}
-use Prim.Native.Nat.{◌-◌}
 use mathlib.Core.Path.{ap}
 use Rattle.rules.specs.State.{Lists, with_gaps}
 use Rattle.session.specs.View.{view}

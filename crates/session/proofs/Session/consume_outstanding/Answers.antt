@@ -1,6 +1,4 @@
 -- A request that is there takes its whole count out of the first gap.
-use borrow.Author.Rules.{rules}
-use Prim.Native.Nat.{◌-◌}
 use mathlib.Core.Path.{refl, ap}
 use Rattle.rules.specs.Names.{MaybeOutstanding}
 use Rattle.rules.specs.Asking.{completed_at}

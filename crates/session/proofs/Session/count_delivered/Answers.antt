@@ -1,7 +1,5 @@
 -- Counted where a request is in flight and its count can grow.
-use borrow.Author.Rules.{rules}
 use borrow.Author.Tests.{eq-eqb, ne_eqb}
-use Prim.Native.Nat.{◌-◌}
 use mathlib.Core.Path.{refl, ap}
 use Rattle.rules.specs.Names.{MaybeOutstanding}
 use Rattle.rules.specs.Numbering.{counted_at, count_delivered}

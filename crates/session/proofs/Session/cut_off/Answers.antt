@@ -1,6 +1,4 @@
 -- A request that is there is marked interrupted.
-use borrow.Author.Rules.{rules}
-use Prim.Native.Nat.{◌-◌}
 use mathlib.Core.Path.{ap, sym, ◌∙◌}
 use Rattle.rules.specs.Names.{MaybeOutstanding}
 use Rattle.rules.specs.State.{with_outstanding}

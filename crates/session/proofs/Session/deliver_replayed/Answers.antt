@@ -1,6 +1,4 @@
 -- The runs passed are dropped, the request completed if it is, and a duplicate is discarded.
-use borrow.Author.Rules.{rules}
-use Prim.Native.Nat.{◌-◌}
 use Rattle.rules.specs.Numbering.{replayed_counted}
 use Rattle.session.proofs.Laws.{answered-is}
 use Rattle.session.proofs.Session.deliver_replayed.Goals as goal

@@ -1,6 +1,4 @@
 -- The violation, answered otherwise.
-use borrow.Author.Rules.{rules}
-use Prim.Native.Nat.{◌-◌}
 use Rattle.session.proofs.Laws.{answered-is}
 use Rattle.session.proofs.Session.discard_violation.Goals as goal
 

@@ -1,6 +1,4 @@
 -- The refusals in their order; then nothing is served.
-use borrow.Author.Rules.{rules}
-use Prim.Native.Nat.{◌-◌}
 use mathlib.Core.Path.{ap}
 use Rattle.rules.specs.Names.{MaybeProvider}
 use Rattle.rules.specs.Local.{serving_refused, end_refused, end_retransmission}

@@ -1,7 +1,4 @@
 -- What is released may be finalized.
-use borrow.Author.Rules.{rules}
-use borrow.Author.Tests.{not-true, not-false}
-use Prim.Native.Nat.{◌-◌}
 use Rattle.session.proofs.Session.ended_by.Goals as goal
 
 pub returns-then-not-graceful : goal.returns-then-not-graceful

@@ -1,7 +1,5 @@
 -- Silence ends the binding; else a stall, and, if the binding stands, a heartbeat after it.
-use borrow.Author.Rules.{rules}
 use native.Mathlib.Omega.{arith}
-use Prim.Native.Nat.{◌-◌}
 use mathlib.Core.Path.{ap, sym, ◌∙◌}
 use Rattle.types.specs.States.{is_stay}
 use Rattle.rules.specs.Deadlines.{established_timeout}

@@ -1,7 +1,5 @@
 -- Three outputs where this side may still send, one where it may not; then what the binding had is released.
-use borrow.Author.Rules.{rules}
 use native.Mathlib.Omega.{arith}
-use Prim.Native.Nat.{◌-◌}
 use Rattle.rules.specs.State.{saying}
 use Rattle.rules.specs.Ending.{fail}
 use Rattle.session.proofs.Laws.{is_false, is_true, then-queued, queued-length, said}

@@ -1,6 +1,4 @@
 -- Only a session that sent FinishedReceiving is finalized.
-use borrow.Author.Rules.{rules}
-use Prim.Native.Nat.{◌-◌}
 use mathlib.Core.Path.{refl}
 use Rattle.rules.specs.Ending.{finalize_if_finished}
 use Rattle.session.proofs.Laws.{is_false, is_true}

@@ -1,6 +1,4 @@
 -- The flag, where the peer has finished.
-use borrow.Author.Rules.{rules}
-use Prim.Native.Nat.{◌-◌}
 use mathlib.Core.Path.{ap, sym}
 use Rattle.rules.specs.Names.{MaybePeerFinished}
 use Rattle.rules.specs.Ending.{sent_at}

@@ -1,6 +1,4 @@
 -- By the flow.
-use borrow.Author.Rules.{rules}
-use Prim.Native.Nat.{◌-◌}
 use Rattle.rules.specs.Finishing.{finished_sending}
 use Rattle.session.proofs.Laws.{is_true, is_false}
 use Rattle.session.proofs.Session.finished_sending.Goals as goal

@@ -1,6 +1,4 @@
 -- The peer has finished; then the answer, if it is due.
-use borrow.Author.Rules.{rules}
-use Prim.Native.Nat.{◌-◌}
 use Rattle.rules.specs.Finishing.{finished_with}
 use Rattle.session.proofs.Session.finished_with.Goals as goal
 

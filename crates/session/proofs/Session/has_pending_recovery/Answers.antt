@@ -1,6 +1,4 @@
 -- Something is missing.
-use borrow.Author.Rules.{rules}
-use Prim.Native.Nat.{◌-◌}
 use mathlib.Core.Path.{ap}
 use mathlib.Core.Bool.{not}
 use Rattle.session.proofs.Session.has_pending_recovery.Goals as goal

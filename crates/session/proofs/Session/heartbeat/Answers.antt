@@ -1,6 +1,4 @@
 -- A Sequence where the flow has numbers, else an UnsequencedHeartbeat.
-use borrow.Author.Rules.{rules}
-use Prim.Native.Nat.{◌-◌}
 use Rattle.rules.specs.State.{saying}
 use Rattle.rules.specs.Deadlines.{heartbeat}
 use Rattle.session.proofs.Laws.{is_false, is_true, said}

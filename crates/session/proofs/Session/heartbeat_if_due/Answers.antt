@@ -1,6 +1,4 @@
 -- Only a heartbeat that is due goes out.
-use borrow.Author.Rules.{rules}
-use Prim.Native.Nat.{◌-◌}
 use Rattle.rules.specs.Deadlines.{heartbeat_if_due}
 use Rattle.session.proofs.Laws.{is_false, is_true}
 use Rattle.session.proofs.Session.heartbeat_if_due.Goals as goal

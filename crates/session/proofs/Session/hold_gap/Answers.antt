@@ -1,6 +1,4 @@
 -- Held or not, the binding ends; the expected number moves where it was held.
-use borrow.Author.Rules.{rules}
-use Prim.Native.Nat.{◌-◌}
 use Rattle.rules.specs.Numbering.{gap_held}
 use Rattle.session.proofs.Session.hold_gap.Goals as goal
 

@@ -1,6 +1,4 @@
 -- It is told, and nothing else.
-use borrow.Author.Rules.{rules}
-use Prim.Native.Nat.{◌-◌}
 use Rattle.rules.specs.State.{saying}
 use Rattle.session.proofs.Laws.{said}
 use Rattle.session.proofs.Session.ignore_reject.Goals as goal

@@ -1,6 +1,4 @@
 -- There is a request or there is none.
-use borrow.Author.Rules.{rules}
-use Prim.Native.Nat.{◌-◌}
 use mathlib.Core.Path.{ap, sym}
 use Rattle.rules.specs.Names.{MaybeOutstanding}
 use Rattle.rules.specs.Asking.{is_outstanding}

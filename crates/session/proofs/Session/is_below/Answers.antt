@@ -1,6 +1,4 @@
 -- Only a number that is there can lie above.
-use borrow.Author.Rules.{rules}
-use Prim.Native.Nat.{◌-◌}
 use mathlib.Core.Path.{ap, sym}
 use Rattle.rules.specs.Names.{MaybeSeq}
 use Rattle.rules.specs.Finishing.{below}

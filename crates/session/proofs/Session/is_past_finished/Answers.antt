@@ -1,6 +1,4 @@
 -- Only an end that is there can be passed.
-use borrow.Author.Rules.{rules}
-use Prim.Native.Nat.{◌-◌}
 use mathlib.Core.Path.{ap, sym, ◌∙◌}
 use Rattle.rules.specs.Names.{MaybeSeq, MaybePeerFinished}
 use Rattle.rules.specs.Numbering.{past_end, past_finished}

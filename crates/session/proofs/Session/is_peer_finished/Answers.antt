@@ -1,6 +1,4 @@
 -- It has finished or it has not.
-use borrow.Author.Rules.{rules}
-use Prim.Native.Nat.{◌-◌}
 use mathlib.Core.Path.{ap, sym}
 use Rattle.rules.specs.Names.{MaybePeerFinished}
 use Rattle.rules.specs.Numbering.{is_peer_finished}

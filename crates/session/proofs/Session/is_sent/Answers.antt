@@ -1,8 +1,7 @@
 -- The two tests of the rule; the end is compared by a difference, since a sum might not fit.
-use borrow.Author.Rules.{rules}
 use borrow.Author.Tests.{le-leb, lt-leb}
 use native.Mathlib.Omega.{arith}
-use Prim.Native.Nat.{◌≤◌, ◌<◌, ◌+◌, ◌-◌}
+use Prim.Native.Nat.{◌≤◌, ◌<◌, ◌+◌}
 use Rattle.rules.specs.Serving.{is_sent}
 use Rattle.session.proofs.Laws.{leb-moved}
 use Rattle.session.proofs.Session.is_sent.Goals as goal

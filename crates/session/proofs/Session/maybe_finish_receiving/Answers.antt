@@ -1,6 +1,4 @@
 -- The tests in the order of the rule, then FinishedReceiving goes out.
-use borrow.Author.Rules.{rules}
-use Prim.Native.Nat.{◌-◌}
 use mathlib.Core.Path.{ap}
 use Rattle.rules.specs.Names.{MaybePeerFinished}
 use Rattle.rules.specs.State.{saying}

@@ -1,6 +1,4 @@
 -- Each part is the new one.
-use borrow.Author.Rules.{rules}
-use Prim.Native.Nat.{◌-◌}
 use mathlib.Core.Bool.{false}
 use Rattle.rules.specs.Names.outstanding
 use Rattle.rules.specs.Names.finished

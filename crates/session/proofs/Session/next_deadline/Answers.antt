@@ -1,6 +1,4 @@
 -- By the state of the binding.
-use borrow.Author.Rules.{rules}
-use Prim.Native.Nat.{◌-◌}
 use mathlib.Core.Path.{ap, sym}
 use Rattle.rules.specs.Names.{BindState}
 use Rattle.rules.specs.Deadlines.{deadline_in, next_deadline}

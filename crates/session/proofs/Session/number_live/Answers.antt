@@ -1,7 +1,5 @@
 -- Awaiting a Sequence, no number and the last number are violations; else the number is the expected one.
-use borrow.Author.Rules.{rules}
 use borrow.Author.Tests.{eq-eqb, ne_eqb}
-use Prim.Native.Nat.{◌-◌}
 use mathlib.Core.Path.{ap}
 use mathlib.Core.Bool.{Bool, false}
 use Rattle.types.specs.Base.{if◌then◌else◌}

@@ -1,8 +1,6 @@
 -- The last number is never given; else the NotApplied goes behind what its number needs.
-use borrow.Author.Rules.{rules}
 use borrow.Author.Tests.{le-leb, lt-leb}
 use native.Mathlib.Omega.{arith}
-use Prim.Native.Nat.{◌-◌}
 use mathlib.Core.List.{[], ◌∷◌}
 use Rattle.types.specs.States.{with_keepalive}
 use Rattle.rules.specs.Names.{Binding}

@@ -1,6 +1,4 @@
 -- Closing ignores it; else a batch in progress has it, or it is live.
-use borrow.Author.Rules.{rules}
-use Prim.Native.Nat.{◌-◌}
 use mathlib.Core.Path.{ap}
 use Rattle.types.specs.States.{with_received}
 use Rattle.rules.specs.Names.{MaybeReplay}

@@ -1,7 +1,5 @@
 -- The event follows what the message did, if it was accepted.
-use borrow.Author.Rules.{rules}
 use native.Mathlib.Omega.{arith}
-use Prim.Native.Nat.{◌-◌}
 use mathlib.Core.Path.{◌≡◌, ap, sym, ◌∙◌}
 use mathlib.Core.Bool.{true, false}
 use Rattle.rules.specs.Numbering.{on_application}

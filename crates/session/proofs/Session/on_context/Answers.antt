@@ -1,7 +1,5 @@
 -- Another session is a violation, the null number nothing.
-use borrow.Author.Rules.{rules}
 use borrow.Author.Tests.{eq-eqb, ne_eqb}
-use Prim.Native.Nat.{◌-◌}
 use Rattle.rules.specs.Peer.{on_context}
 use Rattle.session.proofs.Laws.{is_false, is_true}
 use Rattle.session.proofs.Session.on_context.Goals as goal

@@ -1,7 +1,5 @@
 -- The number is announced, then recovery is resumed; an unsequenced peer has none.
-use borrow.Author.Rules.{rules}
 use native.Mathlib.Omega.{arith}
-use Prim.Native.Nat.{◌-◌}
 use mathlib.Core.Path.{◌≡◌, ap, sym, ◌∙◌}
 use mathlib.Core.Bool.{true}
 use Rattle.types.specs.States.{is_stay}

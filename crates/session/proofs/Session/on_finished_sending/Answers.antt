@@ -1,7 +1,5 @@
 -- Another session is a violation, a repetition nothing; else it is told first.
-use borrow.Author.Rules.{rules}
 use native.Mathlib.Omega.{arith}
-use Prim.Native.Nat.{◌-◌}
 use Rattle.rules.specs.Finishing.{on_finished_sending}
 use Rattle.session.proofs.Laws.{is_false, is_true, queued-length, said}
 use Rattle.session.proofs.Session.on_finished_sending.Goals as goal

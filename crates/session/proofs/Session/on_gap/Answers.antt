@@ -1,7 +1,5 @@
 -- The gap is told, then by the flow.
-use borrow.Author.Rules.{rules}
 use native.Mathlib.Omega.{arith}
-use Prim.Native.Nat.{◌-◌}
 use mathlib.Core.Path.{ap}
 use Rattle.rules.specs.Names.{FlowType}
 use Rattle.rules.specs.Numbering.{gap_on, on_gap}

@@ -1,6 +1,4 @@
 -- After FinishedSending it is a violation; then by the flow.
-use borrow.Author.Rules.{rules}
-use Prim.Native.Nat.{◌-◌}
 use mathlib.Core.Path.{ap}
 use Rattle.rules.specs.Names.{FlowType}
 use Rattle.rules.specs.Numbering.{live_on, on_live}

@@ -1,6 +1,4 @@
 -- By the kind.
-use borrow.Author.Rules.{rules}
-use Prim.Native.Nat.{◌-◌}
 use mathlib.Core.Path.{ap}
 use Rattle.rules.specs.Names.{PeerMessage}
 use Rattle.rules.specs.Peer.{on_message}

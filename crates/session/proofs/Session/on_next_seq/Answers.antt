@@ -1,7 +1,5 @@
 -- The violations in the order of the rule, then the batch stops and the number is announced.
-use borrow.Author.Rules.{rules}
 use borrow.Author.Tests.{eq-eqb, ne_eqb}
-use Prim.Native.Nat.{◌-◌}
 use Rattle.rules.specs.Numbering.{on_next_seq}
 use Rattle.session.proofs.Laws.{is_false, is_true}
 use Rattle.session.proofs.Session.on_next_seq.Goals as goal

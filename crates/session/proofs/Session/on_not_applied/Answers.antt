@@ -1,6 +1,4 @@
 -- Only an Idempotent flow of ours is reported on.
-use borrow.Author.Rules.{rules}
-use Prim.Native.Nat.{◌-◌}
 use Rattle.rules.specs.Peer.{on_not_applied}
 use Rattle.session.proofs.Laws.{is_false, is_true}
 use Rattle.session.proofs.Session.on_not_applied.Goals as goal

@@ -1,6 +1,4 @@
 -- Closing ignores every message; else it is heard, and dispatched.
-use borrow.Author.Rules.{rules}
-use Prim.Native.Nat.{◌-◌}
 use Rattle.rules.specs.State.{saying}
 use Rattle.rules.specs.Peer.{on_peer}
 use Rattle.session.proofs.Laws.{is_true, is_false, said}

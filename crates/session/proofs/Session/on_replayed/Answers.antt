@@ -1,7 +1,5 @@
 -- Past the largest number it is a violation; else the batch moves on and the message is counted.
-use borrow.Author.Rules.{rules}
 use borrow.Author.Tests.{eq-eqb, ne_eqb}
-use Prim.Native.Nat.{◌-◌}
 use mathlib.Core.Path.{ap, sym, ◌∙◌}
 use lib.Dec.{leb}
 use Rattle.rules.specs.State.{Sess}

@@ -1,7 +1,5 @@
 -- The checks in the order of the rule.
-use borrow.Author.Rules.{rules}
 use borrow.Author.Tests.{eq-eqb, ne_eqb}
-use Prim.Native.Nat.{◌-◌}
 use mathlib.Core.Path.{ap}
 use Rattle.rules.specs.Names.{MaybeOutstanding}
 use Rattle.rules.specs.Asking.{header_at, on_retransmission}

@@ -1,7 +1,5 @@
 -- Only the request with that stamp of our own session is over.
-use borrow.Author.Rules.{rules}
 use borrow.Author.Tests.{eq-eqb, ne_eqb}
-use Prim.Native.Nat.{◌-◌}
 use mathlib.Core.Path.{ap}
 use Rattle.rules.specs.Names.{MaybeOutstanding}
 use Rattle.rules.specs.Asking.{rejected_at, on_retransmit_reject}

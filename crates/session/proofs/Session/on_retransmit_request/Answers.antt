@@ -1,8 +1,6 @@
 -- The checks in the order of the rule.
-use borrow.Author.Rules.{rules}
 use borrow.Author.Tests.{eq-eqb, ne_eqb, lt-ltb, le-ltb}
 use native.Mathlib.Omega.{arith}
-use Prim.Native.Nat.{◌-◌}
 use Rattle.rules.specs.State.{saying}
 use Rattle.rules.specs.Serving.{on_retransmit_request}
 use Rattle.session.proofs.Laws.{is_false, is_true, queued-length, said}

@@ -1,7 +1,5 @@
 -- The stall is told, then the policy decides.
-use borrow.Author.Rules.{rules}
 use native.Mathlib.Omega.{arith}
-use Prim.Native.Nat.{◌-◌}
 use Rattle.rules.specs.Deadlines.{on_stall}
 use Rattle.session.proofs.Laws.{queued-length, said}
 use Rattle.session.proofs.Session.on_stall.Goals as goal

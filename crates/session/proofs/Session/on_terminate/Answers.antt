@@ -1,6 +1,4 @@
 -- Another session is a violation; then by the state of the binding.
-use borrow.Author.Rules.{rules}
-use Prim.Native.Nat.{◌-◌}
 use mathlib.Core.Path.{ap}
 use Rattle.rules.specs.Names.{BindState}
 use Rattle.rules.specs.Ending.{terminate_at, on_terminate}

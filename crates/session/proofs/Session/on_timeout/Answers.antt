@@ -1,7 +1,5 @@
 -- By the state of the binding; what is not yet due is left alone.
-use borrow.Author.Rules.{rules}
 use native.Mathlib.Omega.{arith}
-use Prim.Native.Nat.{◌-◌}
 use mathlib.Core.Path.{ap}
 use Rattle.rules.specs.Names.{BindState}
 use Rattle.rules.specs.State.{saying}

@@ -1,6 +1,4 @@
 -- Only an unsequenced peer may send it.
-use borrow.Author.Rules.{rules}
-use Prim.Native.Nat.{◌-◌}
 use Rattle.rules.specs.Peer.{on_unsequenced_heartbeat}
 use Rattle.session.proofs.Laws.{is_true, is_false}
 use Rattle.session.proofs.Session.on_unsequenced_heartbeat.Goals as goal

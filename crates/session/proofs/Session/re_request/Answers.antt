@@ -1,6 +1,5 @@
 -- What was delivered is consumed, and what is left asked for.
-use borrow.Author.Rules.{rules}
-use Prim.Native.Nat.{ℕ, ◌-◌}
+use Prim.Native.Nat.{ℕ}
 use mathlib.Core.Path.{ap, sym, ◌∙◌}
 use Rattle.rules.specs.Names.outstanding
 use Rattle.rules.specs.Names.replay

@@ -1,6 +1,4 @@
 -- Recorded: the gap is asked for. Refused: it is held from the lists as they were.
-use borrow.Author.Rules.{rules}
-use Prim.Native.Nat.{◌-◌}
 use Rattle.rules.specs.Numbering.{gap_recorded}
 use Rattle.session.proofs.Session.record_gap.Goals as goal
 

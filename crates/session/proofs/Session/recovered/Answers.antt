@@ -1,7 +1,5 @@
 -- Nothing missing: recovery is complete. Else the next gap is asked for.
-use borrow.Author.Rules.{rules}
 use native.Mathlib.Omega.{arith}
-use Prim.Native.Nat.{◌-◌}
 use Rattle.rules.specs.Asking.{recovered}
 use Rattle.session.proofs.Laws.{is_true, is_false, queued-length, said}
 use Rattle.session.proofs.Session.recovered.Goals as goal

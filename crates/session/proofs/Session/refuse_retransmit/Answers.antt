@@ -1,7 +1,5 @@
 -- The rejection goes out and is told.
-use borrow.Author.Rules.{rules}
 use native.Mathlib.Omega.{arith}
-use Prim.Native.Nat.{◌-◌}
 use Rattle.rules.specs.State.{saying}
 use Rattle.rules.specs.Serving.{refuse_retransmit}
 use Rattle.session.proofs.Laws.{then-queued, queued-length, said}

@@ -1,6 +1,4 @@
 -- The tests in the order of the rule.
-use borrow.Author.Rules.{rules}
-use Prim.Native.Nat.{◌-◌}
 use mathlib.Core.Path.{ap}
 use Rattle.rules.specs.Names.{MaybeSeq}
 use Rattle.rules.specs.Names.seq

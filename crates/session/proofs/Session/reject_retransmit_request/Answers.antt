@@ -1,6 +1,4 @@
 -- The refusals in their order; then the rejection goes out and nothing is served.
-use borrow.Author.Rules.{rules}
-use Prim.Native.Nat.{◌-◌}
 use mathlib.Core.Path.{ap}
 use Rattle.rules.specs.Names.{MaybeProvider}
 use Rattle.rules.specs.State.{saying}

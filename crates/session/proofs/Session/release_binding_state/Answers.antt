@@ -1,6 +1,4 @@
 -- The outstanding request is released, and the rest of what the binding had goes.
-use borrow.Author.Rules.{rules}
-use Prim.Native.Nat.{◌-◌}
 use mathlib.Core.Path.{ap}
 use mathlib.Core.Bool.{false}
 use Rattle.rules.specs.Names.replay

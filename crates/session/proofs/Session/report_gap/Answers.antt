@@ -1,7 +1,5 @@
 -- The expected number moves first; a gap of 2^32 or more is a violation.
-use borrow.Author.Rules.{rules}
 use borrow.Author.Tests.{le-leb, lt-leb}
-use Prim.Native.Nat.{◌-◌}
 use Rattle.rules.specs.Numbering.{gap_reported}
 use Rattle.session.proofs.Session.report_gap.Goals as goal
 

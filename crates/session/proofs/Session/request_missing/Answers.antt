@@ -1,7 +1,5 @@
 -- The tests in the order of the rule, then the first gap.
-use borrow.Author.Rules.{rules}
 use borrow.Author.Tests.{eq-eqb, ne_eqb, le-leb, lt-leb}
-use Prim.Native.Nat.{◌-◌}
 use mathlib.Core.Path.{sym, ◌∙◌}
 use Rattle.rules.specs.Asking.{request_missing}
 use Rattle.session.proofs.Laws.{is_false, is_true}

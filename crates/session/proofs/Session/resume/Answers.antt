@@ -1,7 +1,5 @@
 -- What is missing is asked for; if the binding stands, what was finished is answered.
-use borrow.Author.Rules.{rules}
 use native.Mathlib.Omega.{arith}
-use Prim.Native.Nat.{◌-◌}
 use mathlib.Core.Path.{◌≡◌, ap, sym, ◌∙◌}
 use mathlib.Core.Bool.{true}
 use Rattle.types.specs.States.{is_stay}

@@ -1,8 +1,7 @@
 -- The refusals in their order; then the header of the batch goes out.
-use borrow.Author.Rules.{rules}
 use borrow.Author.Tests.{le-leb, lt-leb}
 use native.Mathlib.Omega.{arith}
-use Prim.Native.Nat.{◌≤◌, ◌<◌, ◌+◌, ◌-◌}
+use Prim.Native.Nat.{◌≤◌, ◌<◌, ◌+◌}
 use mathlib.Core.Path.{ap}
 use Rattle.types.specs.Base.{all_ones}
 use Rattle.rules.specs.Names.{MaybeProvider}

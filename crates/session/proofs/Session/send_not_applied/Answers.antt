@@ -1,6 +1,4 @@
 -- Only an Established binding sends, and only a flow that carries application messages.
-use borrow.Author.Rules.{rules}
-use Prim.Native.Nat.{◌-◌}
 use mathlib.Core.Path.{ap}
 use Rattle.rules.specs.Names.{FlowType}
 use Rattle.rules.specs.State.{saying}

@@ -1,6 +1,4 @@
 -- A number is taken, the keepalive starts anew, and the number is the answer.
-use borrow.Author.Rules.{rules}
-use Prim.Native.Nat.{◌-◌}
 use mathlib.Core.Path.{refl}
 use Rattle.rules.specs.Numbering.{allocate_outbound}
 use Rattle.session.specs.View.{view}

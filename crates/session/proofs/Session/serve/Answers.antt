@@ -1,6 +1,4 @@
 -- The request is kept with nothing sent, and told.
-use borrow.Author.Rules.{rules}
-use Prim.Native.Nat.{◌-◌}
 use Rattle.rules.specs.State.{saying}
 use Rattle.rules.specs.Serving.{serve}
 use Rattle.session.proofs.Laws.{said}

@@ -1,7 +1,6 @@
 -- Keepalive and grace after what was last received; if their sum does not fit, neither does the instant.
-use borrow.Author.Rules.{rules}
 use native.Mathlib.Omega.{arith}
-use Prim.Native.Nat.{◌<◌, ◌+◌, ◌-◌}
+use Prim.Native.Nat.{◌<◌, ◌+◌}
 use Rattle.types.specs.Base.{all_ones}
 use Rattle.rules.specs.Deadlines.{silence_deadline}
 use Rattle.session.proofs.Laws.{deadline-over}

@@ -1,6 +1,4 @@
 -- By the policy, and where it says so by what the request saw.
-use borrow.Author.Rules.{rules}
-use Prim.Native.Nat.{◌-◌}
 use mathlib.Core.Path.{ap, ◌∙◌}
 use mathlib.Core.Bool.{Bool, ◌||◌}
 use Rattle.types.specs.Base.{if◌then◌else◌}

@@ -1,6 +1,4 @@
 -- Only a request in flight whose stall was not reported has a deadline.
-use borrow.Author.Rules.{rules}
-use Prim.Native.Nat.{◌-◌}
 use mathlib.Core.Path.{ap, sym}
 use Rattle.rules.specs.Names.{MaybeOutstanding}
 use Rattle.rules.specs.Deadlines.{stall_at, stall_deadline}

@@ -1,6 +1,4 @@
 -- Only a stall that is due is dealt with.
-use borrow.Author.Rules.{rules}
-use Prim.Native.Nat.{◌-◌}
 use mathlib.Core.Path.{ap}
 use Rattle.rules.specs.Names.{MaybeOutstanding}
 use Rattle.rules.specs.Deadlines.{stall_of, stall_if_due}

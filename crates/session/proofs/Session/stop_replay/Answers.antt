@@ -1,6 +1,4 @@
 -- The wait for a Sequence ends, and a batch in progress is cut off.
-use borrow.Author.Rules.{rules}
-use Prim.Native.Nat.{◌-◌}
 use mathlib.Core.Path.{refl, ap}
 use mathlib.Core.Bool.{false}
 use Rattle.rules.specs.Names.{MaybeReplay}

@@ -1,7 +1,5 @@
 -- The refusals in their order; then a graceful Terminate waits, and any other ends the binding.
-use borrow.Author.Rules.{rules}
 use native.Mathlib.Omega.{arith}
-use Prim.Native.Nat.{◌-◌}
 use Rattle.rules.specs.State.{saying}
 use Rattle.rules.specs.Local.{terminate_refused, terminate}
 use Rattle.session.proofs.Laws.{is_false, is_true, then-queued, queued-length, said}

@@ -1,5 +1,4 @@
 -- Nothing is queued.
-use Prim.Native.Nat.{◌-◌}
 use mathlib.Core.Path.{sym}
 use Rattle.rules.specs.Names.bound
 use Rattle.rules.specs.Names.answer

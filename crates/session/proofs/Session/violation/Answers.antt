@@ -1,7 +1,5 @@
 -- The violation is told, then the binding is_false.
-use borrow.Author.Rules.{rules}
 use native.Mathlib.Omega.{arith}
-use Prim.Native.Nat.{◌-◌}
 use Rattle.rules.specs.Ending.{violation}
 use Rattle.session.proofs.Laws.{queued-length, said}
 use Rattle.session.proofs.Session.violation.Goals as goal

@@ -1,6 +1,4 @@
 -- The request is kept, its stall reported.
-use borrow.Author.Rules.{rules}
-use Prim.Native.Nat.{◌-◌}
 use Rattle.rules.specs.Deadlines.{wait_out}
 use Rattle.session.proofs.Session.wait_out.Goals as goal
 

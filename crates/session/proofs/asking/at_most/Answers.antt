@@ -1,7 +1,6 @@
 -- The length where it is at most the limit.
-use borrow.Author.Rules.{rules}
 use borrow.Author.Tests.{le-leb, lt-leb}
-use Prim.Native.Nat.{◌≤◌, ◌<◌, ◌-◌}
+use Prim.Native.Nat.{◌≤◌, ◌<◌}
 use Rattle.rules.specs.Asking.{fewer}
 use Rattle.session.proofs.asking.at_most.Goals as goal
 

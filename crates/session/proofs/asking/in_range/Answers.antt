@@ -1,8 +1,7 @@
 -- The three tests of the rule; the number is compared by a difference, since a sum might not fit.
-use borrow.Author.Rules.{rules}
 use borrow.Author.Tests.{ne_eqb, le-leb, lt-leb}
 use native.Mathlib.Omega.{arith}
-use Prim.Native.Nat.{◌≤◌, ◌<◌, ◌+◌, ◌-◌}
+use Prim.Native.Nat.{◌≤◌, ◌<◌, ◌+◌}
 use mathlib.Core.Path.{◌≡◌}
 use mathlib.Core.Bool.{false}
 use lib.Dec.{eqb}

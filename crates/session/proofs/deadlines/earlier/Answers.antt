@@ -1,7 +1,5 @@
 -- A deadline that is absent is never the earlier one.
-use borrow.Author.Rules.{rules}
 use borrow.Author.Tests.{le-leb, lt-leb}
-use Prim.Native.Nat.{◌-◌}
 use mathlib.Core.Path.{ap, sym, ◌∙◌}
 use Rattle.rules.specs.Names.{MaybeInstant}
 use Rattle.rules.specs.Deadlines.{earlier_than, earlier}

@@ -1,6 +1,4 @@
 -- A keepalive after the last one.
-use borrow.Author.Rules.{rules}
-use Prim.Native.Nat.{◌-◌}
 use Rattle.rules.specs.Deadlines.{heartbeat_deadline}
 use Rattle.session.proofs.deadlines.heartbeat_deadline.Goals as goal
 

@@ -1,6 +1,4 @@
 -- Only a deadline that is there can be due.
-use borrow.Author.Rules.{rules}
-use Prim.Native.Nat.{◌-◌}
 use mathlib.Core.Path.{ap, sym}
 use Rattle.rules.specs.Names.{MaybeInstant}
 use Rattle.rules.specs.Deadlines.{is_due}

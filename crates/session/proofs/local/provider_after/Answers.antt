@@ -1,7 +1,5 @@
 -- Nothing is left once the whole count was sent.
-use borrow.Author.Rules.{rules}
 use borrow.Author.Tests.{le-leb, lt-leb}
-use Prim.Native.Nat.{◌-◌}
 use Rattle.rules.specs.Local.{provider_after}
 use Rattle.session.proofs.local.provider_after.Goals as goal
 

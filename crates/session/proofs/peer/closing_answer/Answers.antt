@@ -1,6 +1,4 @@
 -- By the kind.
-use borrow.Author.Rules.{rules}
-use Prim.Native.Nat.{◌-◌}
 use mathlib.Core.Path.{ap, sym}
 use Rattle.rules.specs.Names.{PeerMessage}
 use Rattle.session.specs.View.{closing_answer}
