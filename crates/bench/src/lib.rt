@@ -1,5 +1,7 @@
 //! What calls cost, for tools/bench: loops over a record that is held in place. A call is made by its ordinary form, which stores the few
 //! fields that change, and where it is not an ordinary one by `calls`: with that way out the compiler can't make one turn of all of them.
+#![tactic(auto)]
+
 ghost use Rattle.std.specs.Prelude.{◌≤◌};
 
 use calls::Called;
