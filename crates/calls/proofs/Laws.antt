@@ -1,4 +1,5 @@
 -- How a call's answer follows from its tests: a bad record, no binding, no room, and else the step.
+use Rattle.std.specs.Prelude.{if◌then◌else◌}
 use Prim.Native.Nat.{ℕ, ◌≤◌}
 use mathlib.Core.Path.{◌≡◌, refl, ap, sym, ◌∙◌}
 use mathlib.Core.Bool.{Bool, true, false, ◌&&◌, true≢false}
@@ -19,7 +20,6 @@ use Rattle.rules.specs.Names.answer
 use Rattle.rules.specs.Names.refusal
 use Rattle.rules.specs.State.{Sess, Did}
 use Rattle.rules.specs.Gaps.{max_gaps, max_runs}
-use Rattle.types.specs.Base.{if◌then◌else◌}
 use Rattle.types.specs.Flows.{is_sequenced}
 use Rattle.types.specs.States.{with_keepalive}
 use Rattle.rules.specs.State.{did, answering}

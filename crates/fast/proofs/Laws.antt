@@ -1,4 +1,5 @@
 -- Each rule of the rule book where the ordinary case's tests hold.
+use Rattle.std.specs.Prelude.{if◌then◌else◌}
 use Prim.Native.Nat.{ℕ, ◌+◌, ◌-◌, ◌<◌, ◌≤◌}
 use mathlib.Core.Path.{◌≡◌, refl, ap, sym, subst, ◌∙◌}
 use mathlib.Core.Bool.{Bool, true, false, false≢true}
@@ -7,7 +8,7 @@ use native.Mathlib.Omega.{arith}
 use lib.Dec.{leb, ltb, eqb}
 use lib.ListN.{length}
 use borrow.Author.Tests.{le-ltb, le-leb, lt-leb, leb-true, leb-false, ne_eqb, eq-eqb}
-use Rattle.types.specs.Base.{if◌then◌else◌, all_ones, same_id}
+use Rattle.types.specs.Base.{all_ones, same_id}
 use Rattle.types.specs.Flows.{is_sequenced, is_recoverable, carries_none}
 use Rattle.types.specs.States.{is_closing, is_established, with_received, with_keepalive, leave_sequence}
 use Rattle.rules.specs.Names.{SeqNum, Nanotime, Instant, Reason, Binding, BindState, FlowType, Gap, Outstanding, Replay, Provider, Retransmission, RetransmitRequest, MaybeInstant, MaybeProvider}

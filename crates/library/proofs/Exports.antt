@@ -1,4 +1,5 @@
 -- Laws of the exported functions: which records are clean and good, and what a call on one comes to.
+use Rattle.std.specs.Prelude.{if◌then◌else◌}
 use Prim.Native.Nat.{ℕ, zero, suc, ◌+◌, ◌<◌, ◌≤◌}
 use mathlib.Core.Path.{◌≡◌, refl, ap, sym, subst, ◌∙◌}
 use mathlib.Core.Bool.{Bool, true, false, not, ◌&&◌}
@@ -7,7 +8,6 @@ use native.Mathlib.Omega.{arith}
 use native.Mathlib.Numerals.{add-one}
 use lib.ListN.{length, drop, get_or}
 use lib.Seq.{drop-cons}
-use Rattle.types.specs.Base.{if◌then◌else◌}
 use Rattle.rules.specs.Names.{SessionId, FlowType, FixpConfig, Link, Answer, MaybeBinding, Binding}
 use Rattle.rules.specs.Names.answer
 use Rattle.rules.specs.Names.refusal

@@ -1,6 +1,5 @@
 -- What the exported functions give: a number outside its list is refused, 1 in a record and then 5 in a request; else the call.
-use Rattle.std.specs.Prelude.{◌≡◌, Bool, true, false, ◌&&◌}
-use Rattle.types.specs.Base.{if◌then◌else◌}
+use Rattle.std.specs.Prelude.{◌≡◌, Bool, true, false, ◌&&◌, if◌then◌else◌}
 use Rattle.rules.specs.Names.{Refusal}
 use Rattle.rules.specs.Names.answer
 use Rattle.rules.specs.Names.refusal

@@ -1,6 +1,5 @@
 -- The enum that a number stands for. A number outside its list stands for the list's last: `Clean` says which are in their lists.
-use Rattle.std.specs.Prelude.{ℕ, Bool, ◌&&◌, ◌||◌, leb, eqb}
-use Rattle.types.specs.Base.{if◌then◌else◌}
+use Rattle.std.specs.Prelude.{ℕ, Bool, ◌&&◌, ◌||◌, leb, eqb, if◌then◌else◌}
 use Rattle.rules.specs.Names.{FlowType, TerminationCode, RetransmitRejectCode, RetransmitStallPolicy, TerminatedBy, MessageName}
 use Rattle.rules.specs.Names.flow
 use Rattle.rules.specs.Names.code
@@ -14,27 +13,27 @@ abbrev pub is_listed : ℕ → ℕ → Bool
 is_listed n last = leb 1 n && leb n last
 
 unfoldable pub flow_in : ℕ → FlowType
-flow_in n = if eqb n 1 then flow.Recoverable else if eqb n 2 then flow.Idempotent else if eqb n 3 then flow.Unsequenced else flow.None
+flow_in n = if eqb n 1 then flow.Recoverable else (if eqb n 2 then flow.Idempotent else (if eqb n 3 then flow.Unsequenced else flow.None))
 
 unfoldable pub policy_in : ℕ → RetransmitStallPolicy
 policy_in n =
     if eqb n 1 then policy.Terminate
-    else if eqb n 2 then policy.ReRequestAfterContextSwitch
-    else if eqb n 3 then policy.ReRequestAfterBatch
-    else policy.EventOnly
+    else (if eqb n 2 then policy.ReRequestAfterContextSwitch
+    else (if eqb n 3 then policy.ReRequestAfterBatch
+    else policy.EventOnly))
 
 unfoldable pub termination_in : ℕ → TerminationCode
 termination_in n =
     if eqb n 1 then code.Finished
-    else if eqb n 2 then code.UnspecifiedError
-    else if eqb n 3 then code.ReRequestOutOfBounds
-    else code.ReRequestInProgress
+    else (if eqb n 2 then code.UnspecifiedError
+    else (if eqb n 3 then code.ReRequestOutOfBounds
+    else code.ReRequestInProgress))
 
 unfoldable pub rejection_in : ℕ → RetransmitRejectCode
 rejection_in n =
     if eqb n 1 then rejection.OutOfRange
-    else if eqb n 2 then rejection.InvalidSession
-    else rejection.RequestLimitExceeded
+    else (if eqb n 2 then rejection.InvalidSession
+    else rejection.RequestLimitExceeded)
 
 -- who ended a binding: 1 this side, 2 the peer
 abbrev pub by_number : TerminatedBy → ℕ
@@ -64,19 +63,19 @@ name_number name.MessageTemplate = 44
 unfoldable pub name_in : ℕ → MessageName
 name_in n =
     if eqb n 32 then name.Sequence
-    else if eqb n 33 then name.Context
-    else if eqb n 34 then name.UnsequencedHeartbeat
-    else if eqb n 35 then name.RetransmitRequest
-    else if eqb n 36 then name.Retransmission
-    else if eqb n 37 then name.RetransmitReject
-    else if eqb n 38 then name.Terminate
-    else if eqb n 39 then name.FinishedSending
-    else if eqb n 40 then name.FinishedReceiving
-    else if eqb n 41 then name.Applied
-    else if eqb n 42 then name.NotApplied
-    else if eqb n 43 then name.Topic
-    else if eqb n 44 then name.MessageTemplate
-    else name.ApplicationMessage
+    else (if eqb n 33 then name.Context
+    else (if eqb n 34 then name.UnsequencedHeartbeat
+    else (if eqb n 35 then name.RetransmitRequest
+    else (if eqb n 36 then name.Retransmission
+    else (if eqb n 37 then name.RetransmitReject
+    else (if eqb n 38 then name.Terminate
+    else (if eqb n 39 then name.FinishedSending
+    else (if eqb n 40 then name.FinishedReceiving
+    else (if eqb n 41 then name.Applied
+    else (if eqb n 42 then name.NotApplied
+    else (if eqb n 43 then name.Topic
+    else (if eqb n 44 then name.MessageTemplate
+    else name.ApplicationMessage))))))))))))
 
 abbrev pub is_name_number : ℕ → Bool
 is_name_number n = eqb n 4 || (leb 32 n && leb n 44)

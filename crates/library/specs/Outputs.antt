@@ -1,6 +1,5 @@
 -- The output that a plain one stands for, and the plain form of each: the kind of the trace record for what is sent, 1 CloseTransport, events 101 to 113.
-use Rattle.std.specs.Prelude.{ℕ, Bool, true, false, ◌&&◌, List, [], ◌∷◌, map, eqb}
-use Rattle.types.specs.Base.{if◌then◌else◌}
+use Rattle.std.specs.Prelude.{ℕ, Bool, true, false, ◌&&◌, List, [], ◌∷◌, map, eqb, if◌then◌else◌}
 use Rattle.types.specs.Flows.{termination_number, rejection_number}
 use Rattle.types.specs.Reasons.{no_text}
 use Rattle.rules.specs.Names.{SessionMessage, Event, Said, Output, SeqNum, Nanotime}
@@ -108,54 +107,54 @@ stamp_in o = record { 0 = o.stamp }
 unfoldable pub said_in : Out → Said
 said_in o =
     if eqb o.kind 32 then said.Send (message.Sequence (record { next_seq_no = number_in o }))
-    else if eqb o.kind 34 then said.Send message.UnsequencedHeartbeat
-    else if eqb o.kind 35 then said.Send (message.RetransmitRequest (record { session_id = id_in o.id; timestamp = stamp_in o; from_seq_no = number_in o; count = o.count }))
-    else if eqb o.kind 36 then said.Send (message.Retransmission (record { session_id = id_in o.id; request_timestamp = stamp_in o; next_seq_no = number_in o; count = o.count }))
-    else if eqb o.kind 37 then said.Send (message.RetransmitReject (record { session_id = id_in o.id; request_timestamp = stamp_in o; code = rejection_in o.code }))
-    else if eqb o.kind 38 then said.Send (message.Terminate (record { session_id = id_in o.id; code = termination_in o.code }))
-    else if eqb o.kind 40 then said.Send (message.FinishedReceiving (record { session_id = id_in o.id }))
-    else if eqb o.kind 42 then said.SendApplication (seq_in o.seq) (record { from_seq_no = number_in o; count = o.count })
-    else if eqb o.kind 101 then said.Event (event.Refused (name_in o.code))
-    else if eqb o.kind 102 then said.Event (event.SequenceGap (number_in o) o.length)
-    else if eqb o.kind 103 then said.Event event.RecoveryComplete
-    else if eqb o.kind 104 then said.Event (event.RetransmitRequested (number_in o) o.count)
-    else if eqb o.kind 105 then said.Event (event.RetransmitRejected (number_in o) o.count (rejection_in o.code))
-    else if eqb o.kind 106 then said.Event (event.RetransmitTimedOut (number_in o) o.count)
-    else if eqb o.kind 107 then said.Event (event.NotApplied (number_in o) o.count)
-    else if eqb o.kind 108 then said.Event (event.Applied (number_in o) o.count)
-    else if eqb o.kind 109 then said.Event (event.Terminated (termination_in o.code) (by_in o.by))
-    else if eqb o.kind 110 then said.Event event.KeepaliveLapsed
-    else if eqb o.kind 111 then said.Event event.ProtocolViolation
-    else if eqb o.kind 112 then said.Event (event.PeerFinishedSending (seq_in o.seq))
-    else if eqb o.kind 113 then said.Event (event.Ignored (name_in o.code))
-    else said.CloseTransport
+    else (if eqb o.kind 34 then said.Send message.UnsequencedHeartbeat
+    else (if eqb o.kind 35 then said.Send (message.RetransmitRequest (record { session_id = id_in o.id; timestamp = stamp_in o; from_seq_no = number_in o; count = o.count }))
+    else (if eqb o.kind 36 then said.Send (message.Retransmission (record { session_id = id_in o.id; request_timestamp = stamp_in o; next_seq_no = number_in o; count = o.count }))
+    else (if eqb o.kind 37 then said.Send (message.RetransmitReject (record { session_id = id_in o.id; request_timestamp = stamp_in o; code = rejection_in o.code }))
+    else (if eqb o.kind 38 then said.Send (message.Terminate (record { session_id = id_in o.id; code = termination_in o.code }))
+    else (if eqb o.kind 40 then said.Send (message.FinishedReceiving (record { session_id = id_in o.id }))
+    else (if eqb o.kind 42 then said.SendApplication (seq_in o.seq) (record { from_seq_no = number_in o; count = o.count })
+    else (if eqb o.kind 101 then said.Event (event.Refused (name_in o.code))
+    else (if eqb o.kind 102 then said.Event (event.SequenceGap (number_in o) o.length)
+    else (if eqb o.kind 103 then said.Event event.RecoveryComplete
+    else (if eqb o.kind 104 then said.Event (event.RetransmitRequested (number_in o) o.count)
+    else (if eqb o.kind 105 then said.Event (event.RetransmitRejected (number_in o) o.count (rejection_in o.code))
+    else (if eqb o.kind 106 then said.Event (event.RetransmitTimedOut (number_in o) o.count)
+    else (if eqb o.kind 107 then said.Event (event.NotApplied (number_in o) o.count)
+    else (if eqb o.kind 108 then said.Event (event.Applied (number_in o) o.count)
+    else (if eqb o.kind 109 then said.Event (event.Terminated (termination_in o.code) (by_in o.by))
+    else (if eqb o.kind 110 then said.Event event.KeepaliveLapsed
+    else (if eqb o.kind 111 then said.Event event.ProtocolViolation
+    else (if eqb o.kind 112 then said.Event (event.PeerFinishedSending (seq_in o.seq))
+    else (if eqb o.kind 113 then said.Event (event.Ignored (name_in o.code))
+    else said.CloseTransport))))))))))))))))))))
 
 -- whether kind and code are of their lists
 unfoldable pub is_said : Out → Bool
 is_said o =
     if eqb o.kind 1 then true
-    else if eqb o.kind 32 then true
-    else if eqb o.kind 34 then true
-    else if eqb o.kind 35 then true
-    else if eqb o.kind 36 then true
-    else if eqb o.kind 37 then is_listed o.code 3
-    else if eqb o.kind 38 then is_listed o.code 4
-    else if eqb o.kind 40 then true
-    else if eqb o.kind 42 then true
-    else if eqb o.kind 101 then is_name_number o.code
-    else if eqb o.kind 102 then true
-    else if eqb o.kind 103 then true
-    else if eqb o.kind 104 then true
-    else if eqb o.kind 105 then is_listed o.code 3
-    else if eqb o.kind 106 then true
-    else if eqb o.kind 107 then true
-    else if eqb o.kind 108 then true
-    else if eqb o.kind 109 then is_listed o.by 2 && is_listed o.code 4
-    else if eqb o.kind 110 then true
-    else if eqb o.kind 111 then true
-    else if eqb o.kind 112 then true
-    else if eqb o.kind 113 then is_name_number o.code
-    else false
+    else (if eqb o.kind 32 then true
+    else (if eqb o.kind 34 then true
+    else (if eqb o.kind 35 then true
+    else (if eqb o.kind 36 then true
+    else (if eqb o.kind 37 then is_listed o.code 3
+    else (if eqb o.kind 38 then is_listed o.code 4
+    else (if eqb o.kind 40 then true
+    else (if eqb o.kind 42 then true
+    else (if eqb o.kind 101 then is_name_number o.code
+    else (if eqb o.kind 102 then true
+    else (if eqb o.kind 103 then true
+    else (if eqb o.kind 104 then true
+    else (if eqb o.kind 105 then is_listed o.code 3
+    else (if eqb o.kind 106 then true
+    else (if eqb o.kind 107 then true
+    else (if eqb o.kind 108 then true
+    else (if eqb o.kind 109 then is_listed o.by 2 && is_listed o.code 4
+    else (if eqb o.kind 110 then true
+    else (if eqb o.kind 111 then true
+    else (if eqb o.kind 112 then true
+    else (if eqb o.kind 113 then is_name_number o.code
+    else false)))))))))))))))))))))
 
 abbrev pub all_said : List Out → Bool
 all_said [] = true

@@ -1,6 +1,5 @@
 -- What each part of a plain record stands for (..In), and the plain part of each (..Out).
-use Rattle.std.specs.Prelude.{ℕ, true, false, eqb}
-use Rattle.types.specs.Base.{if◌then◌else◌}
+use Rattle.std.specs.Prelude.{ℕ, true, false, eqb, if◌then◌else◌}
 use Rattle.types.specs.Flows.{termination_number, policy_number}
 use Rattle.rules.specs.Names.{SessionId, MaybeSeq, MaybeInstant, MaybeDuration, FixpConfig, Reason, Gap, MaybeOutstanding, MaybeReplay, MaybeProvider, MaybePeerFinished, BindState, Binding, MaybeBinding}
 use Rattle.rules.specs.Names.seq
@@ -164,8 +163,8 @@ finished_out finished.None = record { some = false; receiving_sent = false; end 
 unfoldable pub state_in : Bond → BindState
 state_in b =
     if eqb b.phase 1 then state.Established
-    else if eqb b.phase 2 then state.Terminating (record { 0 = b.sent_at }) (termination_in b.code)
-    else state.Closing (instant_in b.deadline)
+    else (if eqb b.phase 2 then state.Terminating (record { 0 = b.sent_at }) (termination_in b.code)
+    else state.Closing (instant_in b.deadline))
 
 abbrev pub bound_in : Bond → Binding
 bound_in b =

@@ -1,8 +1,7 @@
 //! The calls for C and Rust: records as plain numbers, by value in and out.
 #![tactic(auto)]
 
-ghost use Rattle.std.specs.Prelude.{◌≡◌};
-ghost use Rattle.types.specs.Base.{if◌then◌else◌};
+ghost use Rattle.std.specs.Prelude.{◌≡◌, if◌then◌else◌};
 ghost use Rattle.rules.specs.Names.refusal;
 ghost use Rattle.calls.specs.View.{Answered, good_record};
 ghost use Rattle.library.specs.Exported.{is_bond, is_clean, is_opening, refused_out, CallIs, OpenOut, deadline_reply, ClosedIs};

@@ -1,11 +1,11 @@
 -- An application message, live or of a batch, keeps the invariant; what is accepted is noted once, as the peer gave it.
-use Rattle.std.specs.Prelude.{◌≡◌, refl, Bool, true, ◌||◌, ℕ, ◌+◌, ◌-◌, ◌<◌, ◌≤◌, ◌^◌, leb, eqb}
+use Rattle.std.specs.Prelude.{◌≡◌, refl, Bool, true, ◌||◌, ℕ, ◌+◌, ◌-◌, ◌<◌, ◌≤◌, ◌^◌, leb, eqb, if◌then◌else◌}
 use Rattle.std.proofs.Common.{sym, ap, arith}
 use Rattle.std.proofs.Math.Path.{subst}
 use mathlib.Core.List.{List, [], ◌∷◌, ◌++◌}
 use Rattle.std.proofs.Math.Bool.{false}
 use borrow.Author.Tests.{leb-true, leb-false, eqb-true, le-leb}
-use Rattle.types.specs.Base.{if◌then◌else◌, all_ones}
+use Rattle.types.specs.Base.{all_ones}
 use Rattle.rules.specs.Names.{SeqNum, Nanotime, Instant, MaybeSeq, FlowType, Answer, Binding, Gap, Outstanding, MaybeOutstanding, Replay, MaybeReplay}
 use Rattle.rules.specs.Names.seq
 use Rattle.rules.specs.Names.flow

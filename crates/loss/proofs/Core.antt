@@ -1,7 +1,6 @@
 -- What holds of the numbers, over the parts of a session and its history, and each way in which it changes.
-use Rattle.std.specs.Prelude.{◌≡◌, refl, List, [], ◌∷◌, ◌++◌, Bool, true, false, ℕ, ◌+◌, ◌<◌, ◌≤◌}
+use Rattle.std.specs.Prelude.{◌≡◌, refl, List, [], ◌∷◌, ◌++◌, Bool, true, false, ℕ, ◌+◌, ◌<◌, ◌≤◌, if◌then◌else◌}
 use Rattle.std.proofs.Common.{sym, arith}
-use Rattle.types.specs.Base.{if◌then◌else◌}
 use Rattle.rules.specs.Names.{SeqNum, Gap}
 use Rattle.rules.specs.Lists.{drop_below}
 use Rattle.rules.specs.Gaps.{gap_of, lists, consume_missing}

@@ -1,8 +1,7 @@
 -- Counting instead of sets: how many ranges of a list hold the number n. Every change of a list is then one equation.
-use Rattle.std.specs.Prelude.{◌≡◌, refl, List, [], ◌∷◌, ◌++◌, Bool, true, false, ℕ, ◌+◌, ◌<◌, ◌≤◌, ltb, leb}
+use Rattle.std.specs.Prelude.{◌≡◌, refl, List, [], ◌∷◌, ◌++◌, Bool, true, false, ℕ, ◌+◌, ◌<◌, ◌≤◌, ltb, leb, if◌then◌else◌}
 use Rattle.std.proofs.Common.{arith, ltb-true, ltb-false, lt-ltb, le-ltb, le-leb}
 use Rattle.std.proofs.lemmas.Bool.{lt-leb}
-use Rattle.types.specs.Base.{if◌then◌else◌}
 use Rattle.rules.specs.Names.{Gap}
 use Rattle.loss.specs.Count.{hit, hits, Side, less, more, Place, below, inside, above}
 

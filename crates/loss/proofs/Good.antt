@@ -1,7 +1,6 @@
 -- What steps that keep the invariant of a session report, and one step after another.
-use Rattle.std.specs.Prelude.{◌≡◌, refl, List, [], ◌∷◌, ◌++◌, Bool, true, false, ◌&&◌, ℕ}
+use Rattle.std.specs.Prelude.{◌≡◌, refl, List, [], ◌∷◌, ◌++◌, Bool, true, false, ◌&&◌, ℕ, if◌then◌else◌}
 use Rattle.std.proofs.Common.{sym, ap, ◌∙◌, append_assoc}
-use Rattle.types.specs.Base.{if◌then◌else◌}
 use Rattle.types.specs.States.{is_stay}
 use Rattle.rules.specs.Names.{MaybeSeq, Output, Bound, Gap, MaybeReplay}
 use Rattle.rules.specs.Names.bound

@@ -1,13 +1,13 @@
 -- The invariant of a history, and that everything that happens keeps it: a live message finds its own number expected, and a message of
 -- a batch finds that batch replayed.
-use Rattle.std.specs.Prelude.{◌≡◌, Bool, not, ◌&&◌, length, drop, eqb}
+use Rattle.std.specs.Prelude.{◌≡◌, Bool, not, ◌&&◌, length, drop, eqb, if◌then◌else◌}
 use Rattle.std.proofs.Math.Path.{refl, ap, subst}
 use Rattle.std.proofs.Common.{sym, ◌∙◌, arith}
 use mathlib.Core.List.{List, [], ◌∷◌, ◌++◌, append-nil}
 use Rattle.std.proofs.Math.Bool.{true, false}
 use Prim.Native.Nat.{ℕ, zero, suc, ◌+◌}
 use Rattle.std.proofs.lemmas.Bool.{lt-leb}
-use Rattle.types.specs.Base.{if◌then◌else◌, all_ones, same_id}
+use Rattle.types.specs.Base.{all_ones, same_id}
 use Rattle.types.specs.Flows.{is_idempotent}
 use Rattle.types.specs.States.{is_closing, with_received}
 use Rattle.types.specs.Messages.{name_of}
@@ -182,7 +182,7 @@ module _ (h : History) (i : Invariant h) where
 
   -- a Context announces if it is of this session and below 2^64-1
   context-ok : (now : Instant) (stamp : Nanotime) (m : Context) (b : Binding) (a e : Bool) → Truthful (if a && not e then announces m.next_seq_no.0 else other) p →
-      Ok h (if a && not e then announces m.next_seq_no.0 else other) true (if not a then violation 2 s b else if e then stays s b [] else on_next_seq now stamp m.next_seq_no s b)
+      Ok h (if a && not e then announces m.next_seq_no.0 else other) true (if not a then violation 2 s b else (if e then stays s b [] else on_next_seq now stamp m.next_seq_no s b))
   context-ok now stamp m b false e t = keeps-ok other true (violation 2 s b) (bad other 2 b)
   context-ok now stamp m b true true t = keeps-ok other true (stays s b []) (stays-keeps h.accepted h.rejected F (Q other true) s b [] first_good other-now refl)
   context-ok now stamp m b true false t = sequence-ok now stamp m.next_seq_no b t

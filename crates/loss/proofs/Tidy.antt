@@ -1,8 +1,8 @@
 -- Every session reached from new is a sound record, and a sequenced peer always has an expected number: each step queues at most 6
 -- outputs with reasons that fit, and no list outgrows its room. Any flows, any calls.
-use Rattle.std.specs.Prelude.{◌≡◌, refl, List, [], ◌∷◌, ◌++◌, Bool, true, false, not, ◌&&◌, ◌||◌, ℕ, suc, ◌+◌, ◌-◌, ◌≤◌, ◌^◌, length, ltb, leb, eqb}
+use Rattle.std.specs.Prelude.{◌≡◌, refl, List, [], ◌∷◌, ◌++◌, Bool, true, false, not, ◌&&◌, ◌||◌, ℕ, suc, ◌+◌, ◌-◌, ◌≤◌, ◌^◌, length, ltb, leb, eqb, if◌then◌else◌}
 use Rattle.std.proofs.Common.{ap, arith, length-append, leb-true, leb-false, le-leb}
-use Rattle.types.specs.Base.{if◌then◌else◌, all_ones, same_id, deadline_at}
+use Rattle.types.specs.Base.{all_ones, same_id, deadline_at}
 use Rattle.types.specs.Flows.{is_sequenced, is_recoverable, is_idempotent, is_finished}
 use Rattle.types.specs.States.{is_stay, is_established, is_closing, with_received, with_keepalive, leave_sequence}
 use Rattle.types.specs.Reasons.{no_text, reason_fits}

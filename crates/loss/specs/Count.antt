@@ -1,6 +1,5 @@
 -- Counting instead of sets: how many ranges of a list hold the number n. Every change of a list is then one equation (proofs/Count).
-use Rattle.std.specs.Prelude.{◌≡◌, List, [], ◌∷◌, ℕ, ◌+◌, ◌<◌, ◌≤◌, ltb, leb}
-use Rattle.types.specs.Base.{if◌then◌else◌}
+use Rattle.std.specs.Prelude.{◌≡◌, List, [], ◌∷◌, ℕ, ◌+◌, ◌<◌, ◌≤◌, ltb, leb, if◌then◌else◌}
 use Rattle.rules.specs.Names.{Gap}
 
 -- 1 if lo ≤ n < hi, else 0

@@ -1,6 +1,6 @@
 -- Histories of the calls, with a truthful peer and a link that loses: what happens, what it leaves, and what is allowed to happen.
-use Rattle.std.specs.Prelude.{ℕ, zero, suc, ◌+◌, ◌≡◌, Bool, true, false, not, ◌&&◌, List, [], ◌∷◌, ◌++◌, eqb}
-use Rattle.types.specs.Base.{if◌then◌else◌, all_ones, same_id}
+use Rattle.std.specs.Prelude.{ℕ, zero, suc, ◌+◌, ◌≡◌, Bool, true, false, not, ◌&&◌, List, [], ◌∷◌, ◌++◌, eqb, if◌then◌else◌}
+use Rattle.types.specs.Base.{all_ones, same_id}
 use Rattle.rules.specs.Names.{SessionId, MaybeSeq, FlowType, FixpConfig, PeerMessage, Gap}
 use Rattle.rules.specs.Names.seq
 use Rattle.rules.specs.Names.flow

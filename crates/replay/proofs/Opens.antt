@@ -1,4 +1,5 @@
 -- Laws of a trace's beginning: its first record is an open, which is refused or begins the run.
+use Rattle.std.specs.Prelude.{if◌then◌else◌}
 use Prim.Native.Nat.{ℕ, ◌+◌, ◌-◌, ◌<◌, ◌≤◌}
 use mathlib.Core.Path.{◌≡◌, refl, ap, sym, ◌∙◌}
 use mathlib.Core.Bool.{true, false, false≢true, true≢false}
@@ -8,7 +9,6 @@ use native.Mathlib.Decide.{dec_lt}
 use borrow.Author.Tests.{lt-ltb, le-ltb}
 use lib.ListN.{length, take, drop}
 use lib.Dec.{ltb}
-use Rattle.types.specs.Base.{if◌then◌else◌}
 use Rattle.types.specs.States.{link_status}
 use Rattle.rules.specs.Names.{SessionId, FlowType, FixpConfig}
 use Rattle.rules.specs.Names.seq

@@ -1,4 +1,5 @@
 -- Laws of a run: the records one behind another, what a record leaves, and how the lines go on.
+use Rattle.std.specs.Prelude.{if◌then◌else◌}
 use Prim.Native.Nat.{ℕ, zero, suc, ◌+◌, ◌-◌, ◌*◌, ◌<◌, ◌≤◌}
 use mathlib.Core.Path.{◌≡◌, refl, ap, sym, subst, ◌∙◌}
 use mathlib.Core.Bool.{Bool, true, false, false≢true}
@@ -7,7 +8,6 @@ use native.Mathlib.Omega.{arith}
 use borrow.Author.Tests.{lt-ltb, le-ltb, le-leb, leb-true}
 use lib.ListN.{length, take, drop}
 use lib.Dec.{leb}
-use Rattle.types.specs.Base.{if◌then◌else◌}
 use Rattle.types.specs.States.{link_status}
 use Rattle.rules.specs.Names.{SessionId, FlowType, FixpConfig, Link, Answer, Output}
 use Rattle.rules.specs.Queries.{next_inbound_seq}

@@ -1,6 +1,6 @@
 -- 01, "The last line's missing figure is the sum of the gap lengths."
-use Rattle.std.specs.Prelude.{ℕ, ◌+◌, ◌-◌, List, [], ◌∷◌, leb}
-use Rattle.types.specs.Base.{if◌then◌else◌, all_ones}
+use Rattle.std.specs.Prelude.{ℕ, ◌+◌, ◌-◌, List, [], ◌∷◌, leb, if◌then◌else◌}
+use Rattle.types.specs.Base.{all_ones}
 use Rattle.rules.specs.Names.{Gap}
 
 abbrev pub gap_lengths : List Gap → ℕ

@@ -1,6 +1,5 @@
 -- What the trace program prints: the rule book's calls over the records of its input, a line for each (01, "Trace program").
-use Rattle.std.specs.Prelude.{ℕ, zero, suc, ◌+◌, ◌≤◌, ◌≡◌, Bool, true, false, List, [], ◌∷◌, ◌++◌, length, take, drop, leb, ltb}
-use Rattle.types.specs.Base.{if◌then◌else◌}
+use Rattle.std.specs.Prelude.{ℕ, zero, suc, ◌+◌, ◌≤◌, ◌≡◌, Bool, true, false, List, [], ◌∷◌, ◌++◌, length, take, drop, leb, ltb, if◌then◌else◌}
 use Rattle.types.specs.States.{link_status}
 use Rattle.rules.specs.Names.seq
 use Rattle.rules.specs.Names.status

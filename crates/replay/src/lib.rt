@@ -1,8 +1,7 @@
 //! A trace's records run one after another, a line for each (01, "Trace program").
 #![tactic(auto)]
 
-ghost use Rattle.std.specs.Prelude.{◌≡◌, ◌≤◌, ◌<◌, ◌+◌, ◌-◌, length, ◌++◌, leb, ltb, IfOk};
-ghost use Rattle.types.specs.Base.{if◌then◌else◌};
+ghost use Rattle.std.specs.Prelude.{◌≡◌, ◌≤◌, ◌<◌, ◌+◌, ◌-◌, length, ◌++◌, leb, ltb, IfOk, if◌then◌else◌};
 ghost use Rattle.types.specs.States.{link_status};
 ghost use Rattle.rules.specs.Queries.{next_inbound_seq};
 ghost use Rattle.queue.specs.View.{OutsWf};

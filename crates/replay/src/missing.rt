@@ -1,6 +1,5 @@
 //! The missing figure of a trace's last line (01, "Trace program").
-ghost use Rattle.std.specs.Prelude.{◌≡◌, ◌+◌, ◌-◌};
-ghost use Rattle.types.specs.Base.{if◌then◌else◌};
+ghost use Rattle.std.specs.Prelude.{◌≡◌, ◌+◌, ◌-◌, if◌then◌else◌};
 ghost use Rattle.rings.specs.View.{GapRingWf, gap_list, sound_gaps};
 ghost use Rattle.replay.specs.Missing.{at_most, missing_figure};
 

@@ -1,6 +1,5 @@
 -- A ring as the list that it stands for, over any type of element and any room.
-use Rattle.std.specs.Prelude.{ℕ, zero, suc, ◌+◌, ◌-◌, ◌<◌, ◌≡◌, List, [], ◌∷◌, get_or, ltb}
-use Rattle.types.specs.Base.{if◌then◌else◌}
+use Rattle.std.specs.Prelude.{ℕ, zero, suc, ◌+◌, ◌-◌, ◌<◌, ◌≡◌, List, [], ◌∷◌, get_or, ltb, if◌then◌else◌}
 
 -- the place that p stands for, where p is below twice the room
 unfoldable pub wrap : ℕ → ℕ → ℕ

@@ -1,6 +1,6 @@
 -- 01, "Asking": what is missing is asked for, one request at a time (FIXP 4.6).
-use Rattle.std.specs.Prelude.{ℕ, ◌+◌, ◌-◌, Bool, true, false, not, ◌&&◌, ◌||◌, [], ◌∷◌, leb, eqb}
-use Rattle.types.specs.Base.{if◌then◌else◌, all_ones, same_id}
+use Rattle.std.specs.Prelude.{ℕ, ◌+◌, ◌-◌, Bool, true, false, not, ◌&&◌, ◌||◌, [], ◌∷◌, leb, eqb, if◌then◌else◌}
+use Rattle.types.specs.Base.{all_ones, same_id}
 use Rattle.types.specs.Flows.{is_recoverable}
 use Rattle.types.specs.States.{is_established, leave_sequence}
 use Rattle.rules.specs.Names.{SeqNum, Nanotime, Instant, Reason, Retransmission, RetransmitReject, Binding, Gap, MaybeGap, Outstanding, MaybeOutstanding, MaybePeerFinished}
@@ -50,8 +50,8 @@ abbrev pub ask_for : MaybeGap → Instant → Nanotime → Sess → Binding → 
 ask_for gap.None now stamp s b = stays s b []
 ask_for (gap.Some g) now stamp s b =
     if leb g.end.0 g.from.0 then stays s b [] else
-    if eqb stamp.0 all_ones then fail code.UnspecifiedError 20 s b else
-    ask now stamp g s b
+    (if eqb stamp.0 all_ones then fail code.UnspecifiedError 20 s b else
+    ask now stamp g s b)
 
 -- "Only Established, Recoverable, nothing outstanding: first gap"
 unfoldable pub request_missing : Instant → Nanotime → Sess → Binding → Did
@@ -111,15 +111,15 @@ abbrev pub header_at : MaybeOutstanding → Instant → Retransmission → Sess 
 header_at outstanding.None now m s b = violation 23 s b
 header_at (outstanding.Some o) now m s b =
     if not (eqb m.request_timestamp.0 o.timestamp.0) then violation 24 s b else
-    if not (in_range m o) then violation 25 s b else
-    begin_batch now m o s b
+    (if not (in_range m o) then violation 25 s b else
+    begin_batch now m o s b)
 
 -- "A Retransmission must match session, stamp, next undelivered number and remaining count."
 unfoldable pub on_retransmission : Instant → Retransmission → Sess → Binding → Did
 on_retransmission now m s b =
     if not (is_recoverable s.remote_flow) then violation 21 s b else
-    if not (same_id m.session_id s.id) then violation 22 s b else
-    header_at s.outstanding now m s b
+    (if not (same_id m.session_id s.id) then violation 22 s b else
+    header_at s.outstanding now m s b)
 
 -- it answers no outstanding request
 abbrev pub unasked : Sess → Binding → Did

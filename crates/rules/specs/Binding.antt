@@ -1,6 +1,5 @@
 -- A new session, and binding it to a transport (FIXP 4.3).
-use Rattle.std.specs.Prelude.{ℕ, false, []}
-use Rattle.types.specs.Base.{if◌then◌else◌}
+use Rattle.std.specs.Prelude.{ℕ, false, [], if◌then◌else◌}
 use Rattle.types.specs.Flows.{is_sequenced}
 use Rattle.types.specs.States.{binding}
 use Rattle.rules.specs.Names.{SeqNum, SessionId, Nanotime, Instant, MaybeSeq, FlowType, FixpConfig, Binding}

@@ -1,6 +1,6 @@
 -- 01, "Timeout": silence, then stall, then heartbeat; at the deadline counts as due (FIXP 4.4 and 4.5).
-use Rattle.std.specs.Prelude.{ℕ, ◌+◌, Bool, true, false, ◌||◌, [], ◌∷◌, leb}
-use Rattle.types.specs.Base.{if◌then◌else◌, deadline_at}
+use Rattle.std.specs.Prelude.{ℕ, ◌+◌, Bool, true, false, ◌||◌, [], ◌∷◌, leb, if◌then◌else◌}
+use Rattle.types.specs.Base.{deadline_at}
 use Rattle.types.specs.Flows.{is_sequenced}
 use Rattle.types.specs.States.{with_keepalive, with_in_sequence}
 use Rattle.rules.specs.Names.{Nanotime, Instant, MaybeInstant, MaybeDuration, RetransmitStallPolicy, Reason, BindState, Binding, Outstanding, MaybeOutstanding}

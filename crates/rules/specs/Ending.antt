@@ -1,6 +1,6 @@
 -- How a binding ends: what it leaves, a failure, a violation, and the peer's Terminate (FIXP 4.4 and 6.3).
-use Rattle.std.specs.Prelude.{ℕ, ◌+◌, Bool, true, false, not, ◌&&◌, [], ◌∷◌}
-use Rattle.types.specs.Base.{if◌then◌else◌, same_id, deadline_at}
+use Rattle.std.specs.Prelude.{ℕ, ◌+◌, Bool, true, false, not, ◌&&◌, [], ◌∷◌, if◌then◌else◌}
+use Rattle.types.specs.Base.{same_id, deadline_at}
 use Rattle.types.specs.Flows.{is_finished}
 use Rattle.types.specs.States.{is_established, with_state}
 use Rattle.rules.specs.Names.{Instant, TerminationCode, Reason, Terminate, BindState, Binding, MaybeOutstanding, MaybePeerFinished}

@@ -1,6 +1,6 @@
 -- The peer's flow ends (FIXP 4.7).
-use Rattle.std.specs.Prelude.{ℕ, ◌+◌, Bool, false, not, [], ◌∷◌, ltb, eqb}
-use Rattle.types.specs.Base.{if◌then◌else◌, all_ones, same_id}
+use Rattle.std.specs.Prelude.{ℕ, ◌+◌, Bool, false, not, [], ◌∷◌, ltb, eqb, if◌then◌else◌}
+use Rattle.types.specs.Base.{all_ones, same_id}
 use Rattle.types.specs.Flows.{is_sequenced}
 use Rattle.rules.specs.Names.{Nanotime, Instant, MaybeSeq, FinishedSending, Binding}
 use Rattle.rules.specs.Names.event as ev
@@ -25,8 +25,8 @@ abbrev pub last_at : MaybeSeq → Instant → Nanotime → Sess → Binding → 
 last_at seq.None now stamp s b = violation 36 s b
 last_at (seq.Some last) now stamp s b =
     if eqb last.0 all_ones then violation 37 s b else
-    if below s.inbound_next (last.0 + 1) then violation 38 s b else
-    and_then (on_next_seq now stamp (next last) s b) (finished_with (seq.Some (next last)))
+    (if below s.inbound_next (last.0 + 1) then violation 38 s b else
+    and_then (on_next_seq now stamp (next last) s b) (finished_with (seq.Some (next last))))
 
 unfoldable pub finished_sending : Instant → Nanotime → MaybeSeq → Sess → Binding → Did
 finished_sending now stamp last s b =
@@ -36,5 +36,5 @@ finished_sending now stamp last s b =
 unfoldable pub on_finished_sending : Instant → Nanotime → FinishedSending → Sess → Binding → Did
 on_finished_sending now stamp m s b =
     if not (same_id m.session_id s.id) then violation 35 s b else
-    if is_peer_finished s.peer_finished then stays s b [] else
-    saying (event (ev.PeerFinishedSending m.last_seq_no) ∷ []) (finished_sending now stamp m.last_seq_no s b)
+    (if is_peer_finished s.peer_finished then stays s b [] else
+    saying (event (ev.PeerFinishedSending m.last_seq_no) ∷ []) (finished_sending now stamp m.last_seq_no s b))

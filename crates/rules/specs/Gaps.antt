@@ -1,6 +1,5 @@
 -- 01, "Gaps": the list of gaps and the list of overflow runs.
-use Rattle.std.specs.Prelude.{ℕ, ◌+◌, Bool, true, false, List, [], ◌∷◌, ◌++◌, length, ltb, leb, eqb}
-use Rattle.types.specs.Base.{if◌then◌else◌}
+use Rattle.std.specs.Prelude.{ℕ, ◌+◌, Bool, true, false, List, [], ◌∷◌, ◌++◌, length, ltb, leb, eqb, if◌then◌else◌}
 use Rattle.rules.specs.Names.{SeqNum, Gap, MaybeGap}
 use Rattle.rules.specs.Names.gap
 use Rattle.rules.specs.Lists.{rest, front_of, back_of, set_back, drop_below}
@@ -56,8 +55,8 @@ abbrev pub hold_at : MaybeGap → SeqNum → SeqNum → Lists → Kept
 hold_at gap.None from end g = kept (appended from end g) true
 hold_at (gap.Some last) from end g =
     if leb from.0 last.end.0 then kept (widen last end g) true else
-    if leb max_runs (length g.overflow_received) then kept g false else
-    kept (widen last end (lists g.missing (g.overflow_received ++ (gap_of last.end from ∷ [])))) true
+    (if leb max_runs (length g.overflow_received) then kept g false else
+    kept (widen last end (lists g.missing (g.overflow_received ++ (gap_of last.end from ∷ [])))) true)
 
 -- "Else it is held: appended as one more, or, if one more is already there, joined to it"
 unfoldable pub hold_refused_gap : ℕ → SeqNum → SeqNum → Lists → Kept

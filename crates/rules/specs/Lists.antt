@@ -1,6 +1,5 @@
 -- A list of gaps at its two ends. The code has rings where the rules have lists.
-use Rattle.std.specs.Prelude.{ℕ, Bool, true, false, List, [], ◌∷◌, leb}
-use Rattle.types.specs.Base.{if◌then◌else◌}
+use Rattle.std.specs.Prelude.{ℕ, Bool, true, false, List, [], ◌∷◌, leb, if◌then◌else◌}
 use Rattle.rules.specs.Names.{Gap, MaybeGap}
 use Rattle.rules.specs.Names.gap
 

@@ -1,6 +1,6 @@
 -- The local calls: what each refuses, in the Rust's order, and what it does where it refuses nothing.
-use Rattle.std.specs.Prelude.{ℕ, ◌+◌, ◌-◌, Bool, true, false, not, ◌||◌, [], ◌∷◌, leb}
-use Rattle.types.specs.Base.{if◌then◌else◌, all_ones}
+use Rattle.std.specs.Prelude.{ℕ, ◌+◌, ◌-◌, Bool, true, false, not, ◌||◌, [], ◌∷◌, leb, if◌then◌else◌}
+use Rattle.types.specs.Base.{all_ones}
 use Rattle.types.specs.Flows.{is_sequenced, carries_none, is_finished}
 use Rattle.types.specs.States.{is_established, status_of, with_state, with_keepalive, leave_sequence}
 use Rattle.types.specs.Reasons.{max_reason_len, reason_fits}

@@ -1,6 +1,6 @@
 -- 01, "Expected number" and "Gaps": an announced number, a gap, an application message (FIXP 3.5, 4.6, 4.8).
-use Rattle.std.specs.Prelude.{ℕ, ◌+◌, ◌-◌, ◌^◌, Bool, true, false, not, [], ◌∷◌, ltb, leb, eqb}
-use Rattle.types.specs.Base.{if◌then◌else◌, all_ones}
+use Rattle.std.specs.Prelude.{ℕ, ◌+◌, ◌-◌, ◌^◌, Bool, true, false, not, [], ◌∷◌, ltb, leb, eqb, if◌then◌else◌}
+use Rattle.types.specs.Base.{all_ones}
 use Rattle.types.specs.Flows.{is_sequenced}
 use Rattle.types.specs.States.{is_established, is_closing, with_received, with_keepalive, with_in_sequence}
 use Rattle.rules.specs.Names.{SeqNum, Nanotime, Instant, MaybeSeq, FlowType, Output, NotApplied, Answer, Binding, Outstanding, MaybeOutstanding, MaybePeerFinished, Replay, MaybeReplay}
@@ -131,9 +131,9 @@ abbrev pub announced_to : MaybeSeq → Instant → Nanotime → SeqNum → Sess 
 announced_to seq.None now stamp next s b = stays (with_inbound (seq.Some next) s) b []
 announced_to (seq.Some expected) now stamp next s b =
     if ltb next.0 expected.0 then violation 17 s b else
-    if eqb next.0 expected.0 then stays s b [] else
-    if ltb s.config.max_gap_len (next.0 - expected.0) then violation 16 s b else
-    on_gap now stamp expected next s b
+    (if eqb next.0 expected.0 then stays s b [] else
+    (if ltb s.config.max_gap_len (next.0 - expected.0) then violation 16 s b else
+    on_gap now stamp expected next s b))
 
 -- "The first announcement sets it without a gap"
 unfoldable pub announced : Instant → Nanotime → SeqNum → Sess → Binding → Did
@@ -145,9 +145,9 @@ announced now stamp next s b =
 unfoldable pub on_next_seq : Instant → Nanotime → SeqNum → Sess → Binding → Did
 on_next_seq now stamp next s b =
     if not (is_sequenced s.remote_flow) then violation 13 s b else
-    if eqb next.0 0 then violation 14 s b else
-    if past_finished s.peer_finished next.0 then violation 15 s b else
-    announced now stamp next (stop_replay now s) b
+    (if eqb next.0 0 then violation 14 s b else
+    (if past_finished s.peer_finished next.0 then violation 15 s b else
+    announced now stamp next (stop_replay now s) b))
 
 -- ---- an application message
 abbrev pub discard : Answer

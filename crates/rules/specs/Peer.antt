@@ -1,6 +1,6 @@
 -- A session message of the peer, by its kind.
-use Rattle.std.specs.Prelude.{Bool, true, false, not, [], ◌∷◌, ◌++◌, eqb}
-use Rattle.types.specs.Base.{if◌then◌else◌, all_ones, same_id}
+use Rattle.std.specs.Prelude.{Bool, true, false, not, [], ◌∷◌, ◌++◌, eqb, if◌then◌else◌}
+use Rattle.types.specs.Base.{all_ones, same_id}
 use Rattle.types.specs.Flows.{is_sequenced, is_idempotent}
 use Rattle.types.specs.States.{is_closing, with_received}
 use Rattle.types.specs.Messages.{name_of}
@@ -22,8 +22,8 @@ use Rattle.rules.specs.Finishing.{on_finished_sending}
 unfoldable pub on_context : Instant → Nanotime → Context → Sess → Binding → Did
 on_context now stamp m s b =
     if not (same_id m.session_id s.id) then violation 2 s b else
-    if eqb m.next_seq_no.0 all_ones then stays s b [] else
-    on_next_seq now stamp m.next_seq_no s b
+    (if eqb m.next_seq_no.0 all_ones then stays s b [] else
+    on_next_seq now stamp m.next_seq_no s b)
 
 unfoldable pub on_unsequenced_heartbeat : Sess → Binding → Did
 on_unsequenced_heartbeat s b =

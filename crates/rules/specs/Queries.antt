@@ -1,6 +1,5 @@
 -- What a session is asked and does not change for.
-use Rattle.std.specs.Prelude.{Bool, false, not, ◌&&◌, ltb}
-use Rattle.types.specs.Base.{if◌then◌else◌}
+use Rattle.std.specs.Prelude.{Bool, false, not, ◌&&◌, ltb, if◌then◌else◌}
 use Rattle.types.specs.Flows.{is_sequenced}
 use Rattle.rules.specs.Names.{MaybeSeq}
 use Rattle.rules.specs.Names.seq

@@ -1,6 +1,6 @@
 -- 01, "Serving": a peer's RetransmitRequest (FIXP 4.6.1 to 4.6.4).
-use Rattle.std.specs.Prelude.{ℕ, ◌+◌, Bool, true, false, not, ◌&&◌, [], ◌∷◌, ltb, leb, eqb}
-use Rattle.types.specs.Base.{if◌then◌else◌, same_id}
+use Rattle.std.specs.Prelude.{ℕ, ◌+◌, Bool, true, false, not, ◌&&◌, [], ◌∷◌, ltb, leb, eqb, if◌then◌else◌}
+use Rattle.types.specs.Base.{same_id}
 use Rattle.types.specs.Flows.{is_recoverable}
 use Rattle.types.specs.States.{is_established, leave_sequence}
 use Rattle.rules.specs.Names.{RetransmitRejectCode, RetransmitRequest, Binding, MaybeProvider}
@@ -38,10 +38,10 @@ serve m s b =
 unfoldable pub on_retransmit_request : RetransmitRequest → Sess → Binding → Did
 on_retransmit_request m s b =
     if not (is_established b.state.it) then stays s b (event_with (ev.Ignored name.RetransmitRequest) 27 ∷ []) else
-    if not (is_recoverable s.local_flow) then violation 28 s b else
-    if not (same_id m.session_id s.id) then refuse_retransmit m rejection.InvalidSession 29 s b else
-    if is_serving s.provider then saying (event_with ev.ProtocolViolation 30 ∷ []) (fail code.ReRequestInProgress 30 s b) else
-    if eqb m.count 0 then refuse_retransmit m rejection.OutOfRange 31 s b else
-    if ltb s.config.max_retransmit_count m.count then refuse_retransmit m rejection.RequestLimitExceeded 32 s b else
-    if not (is_sent m s) then refuse_retransmit m rejection.OutOfRange 33 s b else
-    serve m s b
+    (if not (is_recoverable s.local_flow) then violation 28 s b else
+    (if not (same_id m.session_id s.id) then refuse_retransmit m rejection.InvalidSession 29 s b else
+    (if is_serving s.provider then saying (event_with ev.ProtocolViolation 30 ∷ []) (fail code.ReRequestInProgress 30 s b) else
+    (if eqb m.count 0 then refuse_retransmit m rejection.OutOfRange 31 s b else
+    (if ltb s.config.max_retransmit_count m.count then refuse_retransmit m rejection.RequestLimitExceeded 32 s b else
+    (if not (is_sent m s) then refuse_retransmit m rejection.OutOfRange 33 s b else
+    serve m s b))))))

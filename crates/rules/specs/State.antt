@@ -1,7 +1,6 @@
 -- The state as a reader of 01 thinks of it: the session with lists for rings, the queue as a list with its closing flag, and what a
 -- step does.
-use Rattle.std.specs.Prelude.{Bool, true, false, ◌||◌, List, [], ◌∷◌, ◌++◌}
-use Rattle.types.specs.Base.{if◌then◌else◌}
+use Rattle.std.specs.Prelude.{Bool, true, false, ◌||◌, List, [], ◌∷◌, ◌++◌, if◌then◌else◌}
 use Rattle.types.specs.States.{is_stay}
 use Rattle.rules.specs.Names.{SeqNum, SessionId, MaybeSeq, FlowType, FixpConfig, Output, Said, Bound, Binding, Gap, MaybeOutstanding, MaybePeerFinished, MaybeReplay, MaybeProvider, Answer}
 use Rattle.rules.specs.Names.bound

@@ -1,4 +1,5 @@
 -- How many outputs a step adds that leaves the binding standing: few enough that another step has room after it.
+use Rattle.std.specs.Prelude.{if◌then◌else◌}
 use Prim.Native.Nat.{ℕ, ◌+◌, ◌-◌, ◌≤◌, ◌^◌}
 use mathlib.Core.Path.{◌≡◌}
 use mathlib.Core.Bool.{Bool, true, false, not, ◌&&◌, ◌||◌, false≢true}
@@ -6,7 +7,7 @@ use mathlib.Core.List.{[], ◌∷◌}
 use native.Mathlib.Omega.{arith}
 use lib.ListN.{length, length-append}
 use lib.Dec.{ltb, leb, eqb}
-use Rattle.types.specs.Base.{if◌then◌else◌, all_ones}
+use Rattle.types.specs.Base.{all_ones}
 use Rattle.types.specs.Flows.{is_sequenced, is_recoverable}
 use Rattle.types.specs.States.{is_stay, is_established, is_closing, with_received}
 use Rattle.rules.specs.Names.{SeqNum, Nanotime, Instant, MaybeSeq, FlowType, TerminationCode, NotApplied, MaybeGap, MaybeReplay, MaybePeerFinished, Output, Binding}

@@ -1,4 +1,5 @@
 -- How steps are put together: outputs before a step, a step after a step, another answer, and the room that outputs leave.
+use Rattle.std.specs.Prelude.{if◌then◌else◌}
 use Prim.Native.Nat.{ℕ, ◌+◌, ◌-◌, ◌<◌, ◌≤◌}
 use mathlib.Core.Path.{◌≡◌, refl, ap, sym, ◌∙◌}
 use mathlib.Core.Bool.{Bool, true, false}
@@ -7,7 +8,6 @@ use lib.ListN.{length, length-append}
 use borrow.Author.Tests.{eq-eqb, ne_eqb, eqb-true, eqb-false}
 use native.Mathlib.Omega.{arith}
 use lib.Dec.{eqb}
-use Rattle.types.specs.Base.{if◌then◌else◌}
 use Rattle.types.specs.States.{is_stay}
 use Rattle.rules.specs.Names.message
 use Rattle.rules.specs.Outputs.{send}

@@ -1,6 +1,5 @@
 -- What a session and a step stand for in the rule book, and when a session is in order.
-use Rattle.std.specs.Prelude.{◌≤◌, ◌≡◌}
-use Rattle.types.specs.Base.{if◌then◌else◌}
+use Rattle.std.specs.Prelude.{◌≤◌, ◌≡◌, if◌then◌else◌}
 use Rattle.types.specs.Flows.{is_sequenced}
 use Rattle.rules.specs.Names.{FlowType, MaybeSeq, PeerMessage, Binding, Bound, Answer}
 use Rattle.rules.specs.Names.seq

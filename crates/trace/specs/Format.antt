@@ -1,6 +1,6 @@
 -- Which bytes are a record of the trace, and what it means (01, "Trace program"). A number past the end reads 0: a length decides first.
-use Rattle.std.specs.Prelude.{ℕ, zero, suc, ◌+◌, ◌*◌, ◌-◌, Bool, ◌&&◌, List, [], ◌∷◌, length, get_or, leb, eqb}
-use Rattle.types.specs.Base.{if◌then◌else◌, all_ones}
+use Rattle.std.specs.Prelude.{ℕ, zero, suc, ◌+◌, ◌*◌, ◌-◌, Bool, ◌&&◌, List, [], ◌∷◌, length, get_or, leb, eqb, if◌then◌else◌}
+use Rattle.types.specs.Base.{all_ones}
 use Rattle.types.specs.Flows.{flow_number, termination_number, rejection_number, policy_number}
 use Rattle.types.specs.Reasons.{no_text, max_reason_len}
 use Rattle.rules.specs.Names.{SeqNum, Nanotime, SessionId, MaybeSeq, MaybeDuration, FlowType, TerminationCode, RetransmitRejectCode, RetransmitStallPolicy, FixpConfig, Reason, PeerMessage}
@@ -72,33 +72,33 @@ reason_at s at = record { bytes = bytes_at max_reason_len s at; len = length s -
 unfoldable pub flow_of : ℕ → MaybeFlow
 flow_of n =
     if eqb n (flow_number flow.Recoverable) then maybe-flow.Some flow.Recoverable
-    else if eqb n (flow_number flow.Idempotent) then maybe-flow.Some flow.Idempotent
-    else if eqb n (flow_number flow.Unsequenced) then maybe-flow.Some flow.Unsequenced
-    else if eqb n (flow_number flow.None) then maybe-flow.Some flow.None
-    else maybe-flow.None
+    else (if eqb n (flow_number flow.Idempotent) then maybe-flow.Some flow.Idempotent
+    else (if eqb n (flow_number flow.Unsequenced) then maybe-flow.Some flow.Unsequenced
+    else (if eqb n (flow_number flow.None) then maybe-flow.Some flow.None
+    else maybe-flow.None)))
 
 unfoldable pub termination_of : ℕ → MaybeTermination
 termination_of n =
     if eqb n (termination_number code.Finished) then maybe-code.Some code.Finished
-    else if eqb n (termination_number code.UnspecifiedError) then maybe-code.Some code.UnspecifiedError
-    else if eqb n (termination_number code.ReRequestOutOfBounds) then maybe-code.Some code.ReRequestOutOfBounds
-    else if eqb n (termination_number code.ReRequestInProgress) then maybe-code.Some code.ReRequestInProgress
-    else maybe-code.None
+    else (if eqb n (termination_number code.UnspecifiedError) then maybe-code.Some code.UnspecifiedError
+    else (if eqb n (termination_number code.ReRequestOutOfBounds) then maybe-code.Some code.ReRequestOutOfBounds
+    else (if eqb n (termination_number code.ReRequestInProgress) then maybe-code.Some code.ReRequestInProgress
+    else maybe-code.None)))
 
 unfoldable pub rejection_of : ℕ → MaybeRejection
 rejection_of n =
     if eqb n (rejection_number rejection.OutOfRange) then maybe-rejection.Some rejection.OutOfRange
-    else if eqb n (rejection_number rejection.InvalidSession) then maybe-rejection.Some rejection.InvalidSession
-    else if eqb n (rejection_number rejection.RequestLimitExceeded) then maybe-rejection.Some rejection.RequestLimitExceeded
-    else maybe-rejection.None
+    else (if eqb n (rejection_number rejection.InvalidSession) then maybe-rejection.Some rejection.InvalidSession
+    else (if eqb n (rejection_number rejection.RequestLimitExceeded) then maybe-rejection.Some rejection.RequestLimitExceeded
+    else maybe-rejection.None))
 
 unfoldable pub policy_of : ℕ → MaybePolicy
 policy_of n =
     if eqb n (policy_number policy.Terminate) then maybe-policy.Some policy.Terminate
-    else if eqb n (policy_number policy.ReRequestAfterContextSwitch) then maybe-policy.Some policy.ReRequestAfterContextSwitch
-    else if eqb n (policy_number policy.ReRequestAfterBatch) then maybe-policy.Some policy.ReRequestAfterBatch
-    else if eqb n (policy_number policy.EventOnly) then maybe-policy.Some policy.EventOnly
-    else maybe-policy.None
+    else (if eqb n (policy_number policy.ReRequestAfterContextSwitch) then maybe-policy.Some policy.ReRequestAfterContextSwitch
+    else (if eqb n (policy_number policy.ReRequestAfterBatch) then maybe-policy.Some policy.ReRequestAfterBatch
+    else (if eqb n (policy_number policy.EventOnly) then maybe-policy.Some policy.EventOnly
+    else maybe-policy.None)))
 
 abbrev pub with_flow : MaybeFlow → (FlowType → Entry) → Entry
 with_flow maybe-flow.None k = entry.Malformed
@@ -200,43 +200,43 @@ at_least whole n e = if leb whole n then e else entry.Malformed
 unfoldable pub peer_of : ℕ → List ℕ → Entry
 peer_of kind s =
     if eqb kind 32 then exactly (header + 8) (length s) (entry.Peer (sequence_of s))
-    else if eqb kind 33 then exactly (header + 24) (length s) (entry.Peer (context_of s))
-    else if eqb kind 34 then exactly (header + 0) (length s) (entry.Peer peer.UnsequencedHeartbeat)
-    else if eqb kind 35 then exactly (header + 36) (length s) (entry.Peer (request_of s))
-    else if eqb kind 36 then exactly (header + 36) (length s) (entry.Peer (retransmission_of s))
-    else if eqb kind 37 then at_least (header + 25) (length s) (peer_reject_of s)
-    else if eqb kind 38 then at_least (header + 17) (length s) (peer_terminate_of s)
-    else if eqb kind 39 then exactly (header + 24) (length s) (entry.Peer (finished_of s))
-    else if eqb kind 40 then exactly (header + 16) (length s) (entry.Peer peer.FinishedReceiving)
-    else if eqb kind 41 then exactly (header + 12) (length s) (entry.Peer (applied_of s))
-    else if eqb kind 42 then exactly (header + 12) (length s) (entry.Peer (not_applied_of s))
-    else if eqb kind 43 then exactly (header + 0) (length s) (entry.Peer peer.Topic)
-    else if eqb kind 44 then exactly (header + 0) (length s) (entry.Peer peer.MessageTemplate)
-    else entry.Malformed
+    else (if eqb kind 33 then exactly (header + 24) (length s) (entry.Peer (context_of s))
+    else (if eqb kind 34 then exactly (header + 0) (length s) (entry.Peer peer.UnsequencedHeartbeat)
+    else (if eqb kind 35 then exactly (header + 36) (length s) (entry.Peer (request_of s))
+    else (if eqb kind 36 then exactly (header + 36) (length s) (entry.Peer (retransmission_of s))
+    else (if eqb kind 37 then at_least (header + 25) (length s) (peer_reject_of s)
+    else (if eqb kind 38 then at_least (header + 17) (length s) (peer_terminate_of s)
+    else (if eqb kind 39 then exactly (header + 24) (length s) (entry.Peer (finished_of s))
+    else (if eqb kind 40 then exactly (header + 16) (length s) (entry.Peer peer.FinishedReceiving)
+    else (if eqb kind 41 then exactly (header + 12) (length s) (entry.Peer (applied_of s))
+    else (if eqb kind 42 then exactly (header + 12) (length s) (entry.Peer (not_applied_of s))
+    else (if eqb kind 43 then exactly (header + 0) (length s) (entry.Peer peer.Topic)
+    else (if eqb kind 44 then exactly (header + 0) (length s) (entry.Peer peer.MessageTemplate)
+    else entry.Malformed))))))))))))
 
 -- the calls, and any other kind
 unfoldable pub entry_of : ℕ → List ℕ → Entry
 entry_of kind s =
     if eqb kind 1 then exactly (header + 49) (length s) (open_of s)
-    else if eqb kind 2 then exactly (header + 24) (length s) (bind_of s)
-    else if eqb kind 3 then exactly (header + 0) (length s) entry.Release
-    else if eqb kind 4 then exactly (header + 0) (length s) entry.Application
-    else if eqb kind 64 then exactly (header + 0) (length s) entry.Send
-    else if eqb kind 65 then at_least (header + 1) (length s) (terminate_of s)
-    else if eqb kind 66 then exactly (header + 4) (length s) (entry.Retransmit (u32_at s 20))
-    else if eqb kind 67 then at_least (header + 1) (length s) (reject_of s)
-    else if eqb kind 68 then exactly (header + 0) (length s) entry.End
-    else if eqb kind 69 then exactly (header + 0) (length s) entry.Timeout
-    else peer_of kind s
+    else (if eqb kind 2 then exactly (header + 24) (length s) (bind_of s)
+    else (if eqb kind 3 then exactly (header + 0) (length s) entry.Release
+    else (if eqb kind 4 then exactly (header + 0) (length s) entry.Application
+    else (if eqb kind 64 then exactly (header + 0) (length s) entry.Send
+    else (if eqb kind 65 then at_least (header + 1) (length s) (terminate_of s)
+    else (if eqb kind 66 then exactly (header + 4) (length s) (entry.Retransmit (u32_at s 20))
+    else (if eqb kind 67 then at_least (header + 1) (length s) (reject_of s)
+    else (if eqb kind 68 then exactly (header + 0) (length s) entry.End
+    else (if eqb kind 69 then exactly (header + 0) (length s) entry.Timeout
+    else peer_of kind s)))))))))
 
 -- where a reason starts, in the kinds that have one
 unfoldable pub reason_of : ℕ → List ℕ → Reason
 reason_of kind s =
     if eqb kind 37 then reason_at s 45
-    else if eqb kind 38 then reason_at s 37
-    else if eqb kind 65 then reason_at s 21
-    else if eqb kind 67 then reason_at s 21
-    else no_text
+    else (if eqb kind 38 then reason_at s 37
+    else (if eqb kind 65 then reason_at s 21
+    else (if eqb kind 67 then reason_at s 21
+    else no_text)))
 
 -- ---- a record: "length (u16, whole record), kind (u16), instant (u64), stamp (u64), body"
 -- s is as long as its first two bytes say, and has a header

@@ -1,7 +1,6 @@
 -- Where the records of a trace stand: each as a part of it.
-use Rattle.std.specs.Prelude.{ℕ, ◌+◌, ◌<◌, ◌≤◌, ◌≡◌, ◌&&◌, List, length, take, drop, leb}
+use Rattle.std.specs.Prelude.{ℕ, ◌+◌, ◌<◌, ◌≤◌, ◌≡◌, ◌&&◌, List, length, take, drop, leb, if◌then◌else◌}
 use Rattle.std.specs.Borrow.{Bor}
-use Rattle.types.specs.Base.{if◌then◌else◌}
 use Rattle.trace.specs.Format.{u16_at, header}
 
 -- how many bytes the record at a place has: none where what its first two bytes say is under a header or past the end

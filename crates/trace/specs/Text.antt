@@ -1,6 +1,5 @@
 -- What the trace program prints, byte for byte (01, "Trace program").
-use Rattle.std.specs.Prelude.{ℕ, zero, suc, ◌+◌, ◌/◌, ◌%◌, ◌≤◌, ◌≡◌, List, [], ◌∷◌, ◌++◌, take, ltb}
-use Rattle.types.specs.Base.{if◌then◌else◌}
+use Rattle.std.specs.Prelude.{ℕ, zero, suc, ◌+◌, ◌/◌, ◌%◌, ◌≤◌, ◌≡◌, List, [], ◌∷◌, ◌++◌, take, ltb, if◌then◌else◌}
 use Rattle.rules.specs.Names.{MaybeSeq, SessionStatus, Answer}
 use Rattle.rules.specs.Names.seq
 use Rattle.rules.specs.Names.status

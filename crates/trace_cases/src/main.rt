@@ -1,10 +1,8 @@
 //! Runs each trace that an argument names, one after another: what the Rust answers to them stands in `stdout`.
 #![tactic(auto)]
 
-use std::env;
-use std::fs;
-use std::io;
 use std::rt::Files;
+use std::{env, fs, io};
 
 fn one<R: Files + Print + Eprint>(rt: &R, path: &str) -> io::Result<()> {
     let mut buf = [0u8; 65537];

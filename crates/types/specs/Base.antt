@@ -1,13 +1,8 @@
 -- What every rule is written with: a choice, the largest number, and a sum that may not fit.
-use Rattle.std.specs.Prelude.{ℕ, Bool, true, false, ◌&&◌, eqb, leb}
+use Rattle.std.specs.Prelude.{ℕ, Bool, true, false, ◌&&◌, eqb, leb, if◌then◌else◌}
 use Rattle.types.specs.declared.ids.SessionId.{SessionId}
 use Rattle.types.specs.declared.ids.MaybeInstant.{MaybeInstant}
 use Rattle.types.specs.declared.ids.MaybeInstant.TheVariants.{Some, None}
-
-infixr 1 if◌then◌else◌
-abbrev pub if◌then◌else◌ : {A : Type 0} → Bool → A → A → A
-if true then a else b = a
-if false then a else b = b
 
 -- 2^64-1: all ones
 abbrev pub all_ones : ℕ

@@ -1,9 +1,9 @@
 -- A record that is not clean, and a request that is no call, are turned away; else the call, with what was read from both.
+use Rattle.std.specs.Prelude.{if◌then◌else◌}
 use borrow.Author.Rules.{rules}
 use mathlib.Core.Path.{ap, sym, subst, ◌∙◌}
 use Rattle.session.proofs.Laws.{is_true, is_false}
 use mathlib.Core.Bool.{Bool}
-use Rattle.types.specs.Base.{if◌then◌else◌}
 use Rattle.rules.specs.Names.refusal
 use Rattle.library.specs.Requests.{entry_in}
 use Rattle.library.specs.Records.{is_malformed}

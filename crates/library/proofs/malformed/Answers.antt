@@ -1,7 +1,7 @@
 -- 5 on a good record, 1 on a bad one.
+use Rattle.std.specs.Prelude.{if◌then◌else◌}
 use mathlib.Core.Bool.{Bool}
 use mathlib.Core.Path.{ap, sym, ◌∙◌}
-use Rattle.types.specs.Base.{if◌then◌else◌}
 use Rattle.rules.specs.Names.refusal
 use Rattle.library.specs.Exported.{refused_out}
 use borrow.Author.Rules.{rules}

@@ -1,9 +1,9 @@
 -- By whether there is one.
+use Rattle.std.specs.Prelude.{if◌then◌else◌}
 use borrow.Author.Tests.{not-true, not-false}
 use borrow.Author.Rules.{rules}
 use mathlib.Core.Path.{ap, sym}
 use mathlib.Core.Bool.{Bool}
-use Rattle.types.specs.Base.{if◌then◌else◌}
 use Rattle.rules.specs.Names.linked
 use Rattle.library.specs.Parts.{bound_in}
 use Rattle.library.proofs.parts.binding_in.Goals as goal

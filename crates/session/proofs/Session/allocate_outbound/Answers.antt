@@ -1,8 +1,8 @@
 -- A Sequence goes before the number unless the receiver can number it by itself.
+use Rattle.std.specs.Prelude.{if◌then◌else◌}
 use mathlib.Core.Path.{ap, sym}
 use mathlib.Core.List.{[], ◌∷◌}
 use mathlib.Core.Bool.{Bool}
-use Rattle.types.specs.Base.{if◌then◌else◌}
 use Rattle.types.specs.States.{with_in_sequence}
 use Rattle.rules.specs.Names.message
 use Rattle.rules.specs.State.{saying}

@@ -1,9 +1,9 @@
 -- The first announcement sets the number; then it is compared with the expected one.
+use Rattle.std.specs.Prelude.{if◌then◌else◌}
 use borrow.Author.Tests.{eq-eqb, ne_eqb, lt-ltb, le-ltb}
 use mathlib.Core.Path.{ap}
 use mathlib.Core.List.{[]}
 use mathlib.Core.Bool.{Bool, false}
-use Rattle.types.specs.Base.{if◌then◌else◌}
 use Rattle.rules.specs.Names.{MaybeSeq}
 use Rattle.rules.specs.Names.seq
 use Rattle.rules.specs.State.{stays, with_inbound, with_start}

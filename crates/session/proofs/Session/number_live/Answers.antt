@@ -1,8 +1,8 @@
 -- Awaiting a Sequence, no number and the last number are violations; else the number is the expected one.
+use Rattle.std.specs.Prelude.{if◌then◌else◌}
 use borrow.Author.Tests.{eq-eqb, ne_eqb}
 use mathlib.Core.Path.{ap}
 use mathlib.Core.Bool.{Bool, false}
-use Rattle.types.specs.Base.{if◌then◌else◌}
 use Rattle.rules.specs.Names.{MaybeSeq}
 use Rattle.rules.specs.State.{answering, with_start}
 use Rattle.rules.specs.Ending.{violation}

@@ -1,7 +1,7 @@
 -- By the policy, and where it says so by what the request saw.
+use Rattle.std.specs.Prelude.{if◌then◌else◌}
 use mathlib.Core.Path.{ap, ◌∙◌}
 use mathlib.Core.Bool.{Bool, ◌||◌}
-use Rattle.types.specs.Base.{if◌then◌else◌}
 use Rattle.rules.specs.Names.{RetransmitStallPolicy}
 use Rattle.rules.specs.State.{Did}
 use Rattle.rules.specs.Asking.{re_request}
