@@ -233,8 +233,7 @@ fn malformed(record: Record, good: bool) -> Done
 }
 
 /// A call on a record. A number outside its list is refused: 1 in a record, then 5 in a request.
-#[unsafe(no_mangle)]
-pub extern "C" fn fixp_call(record: Record, request: Request) -> Done
+pub fn fixp_call(record: Record, request: Request) -> Done
     ensures { CallIs «record» request result }
 {
     if !is_clean(record) {
@@ -252,8 +251,7 @@ pub extern "C" fn fixp_call(record: Record, request: Request) -> Done
 }
 
 /// A new session. Flows and policy outside their lists are refused by 2, as a configuration out of range is.
-#[unsafe(no_mangle)]
-pub extern "C" fn fixp_open(opening: Opening) -> Done
+pub fn fixp_open(opening: Opening) -> Done
     ensures { OpenOut opening result }
 {
     let id = opening.id;
@@ -299,8 +297,7 @@ fn is_good(session: Session, link: Link, queue: Outputs) -> bool
 }
 
 /// The next instant with work for a timeout, as the number of an ok: 1. Unbound there is none.
-#[unsafe(no_mangle)]
-pub extern "C" fn fixp_next_deadline(record: Record) -> Reply
+pub fn fixp_next_deadline(record: Record) -> Reply
     ensures { result ≡ deadline_reply «record» }
 {
     if !is_clean(record) {
@@ -321,8 +318,7 @@ pub extern "C" fn fixp_next_deadline(record: Record) -> Reply
 }
 
 /// The host reports the transport closed: 1.
-#[unsafe(no_mangle)]
-pub extern "C" fn fixp_transport_closed(record: Record) -> Done
+pub fn fixp_transport_closed(record: Record) -> Done
     ensures { ClosedIs «record» result }
 {
     if !is_clean(record) {
