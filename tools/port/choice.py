@@ -22,6 +22,7 @@ def end_of(text, start):
     leads = text[line_start:start].strip() == ''
     base = indent(first)
     depth = 0
+    waiting = 0
     i = start
     while i < len(text):
         c = text[i]
@@ -50,6 +51,13 @@ def end_of(text, start):
                 continue
             if indent(following) < base or (not leads and indent(following) <= base):
                 return i
+        elif depth == 0 and re.match(r'(if|else)\b', text[i:]) and not re.match(WORD, text[i - 1]):
+            if text[i] == 'i':
+                waiting += 1
+            elif waiting == 0:
+                return i
+            else:
+                waiting -= 1
         elif depth == 0 and re.match(r'in\b', text[i:]) and not re.match(WORD, text[i - 1]):
             return i
         i += 1

@@ -41,9 +41,9 @@ peer_in r =
     if leb r.kind 44 then
     if eqb r.kind 37 then coded_in r.code 3 (entry.Peer (message_in r))
     else (if eqb r.kind 38 then coded_in r.code 4 (entry.Peer (message_in r))
-    else entry.Peer (message_in r)
+    else entry.Peer (message_in r))
     else entry.Malformed
-    else entry.Malformed)
+    else entry.Malformed
 
 -- "2 bind: [...]. 3 release. 4 application. [...] 64 send. 65 terminate, 67 reject: code, reason. 66 retransmit: u32. 68 end. 69 timeout."
 unfoldable pub entry_in : Request → Entry
