@@ -1,7 +1,7 @@
 #!/usr/bin/env python3
 """Brings the repository's own definitions, lemmas, fields and constructors of antt to snake case.
 
-Run once, at the top, after /opt/rattle/port/port.py. A name is turned where an .antt file declares it and it begins with a small letter:
+Run once, at the top, after the kit's port.py. A name is turned where an .antt file declares it and it begins with a small letter:
 `appendGap` to `append_gap`. A dash that joins two names stays (`withGaps-runs` to `with_gaps-runs`); one within a field's or a definition's
 name goes (`overflow-received` to `overflow_received`). Names of Rust source, strings, comments' words that are no declared name, inputs and
 outputs stay. Names that would fall together have a row in APART.

@@ -1,4 +1,4 @@
-//! The lent calls for a caller that holds the queue by value: each lends a local of its own, so that its caller needs no reference and its loops stay covered.
+//! The lent calls for a caller that holds the queue by value: each lends a local of its own, so that its caller needs no reference.
 ghost use Rattle.rules.specs.Calls.{bind_call, release_call, peer_call, application_call, send_call, terminate_call, retransmit_call, reject_call, end_call, timeout_call};
 ghost use Rattle.calls.specs.View.{Answered};
 
