@@ -1,20 +1,24 @@
 -- Laws of the queue as a list: its length, and outputs added one after another.
 use native.Mathlib.Omega.{arith}
-use Prim.Native.Nat.{ℕ, zero, suc, ◌+◌, ◌-◌, ◌<◌}
+use native.Mathlib.Numerals.{add-one}
+use Prim.Native.Nat.{ℕ, zero, suc, ◌+◌, ◌-◌, ◌<◌, ◌≤◌}
 use mathlib.Core.Path.{◌≡◌, refl, ap, sym, ◌∙◌}
 use mathlib.Core.Bool.{Bool, true, false, ◌||◌, ◌&&◌}
-use mathlib.Core.List.{List, [], ◌∷◌, ◌++◌, append_assoc}
+use mathlib.Core.List.{List, [], ◌∷◌, ◌++◌, append_assoc, map}
 use lib.ListN.{length, get_or}
 use lib.Dec.{ltb, leb}
 use borrow.Author.Tests.{ltb-true, leb-true}
 use Rattle.rings.specs.Ring.{ring_list, wrap}
-use Rattle.rings.proofs.Laws.{length-ring, ring-cons}
+use Rattle.rings.proofs.Laws.{length-ring, ring-cons, ring-none, ring-snoc, wrap-low}
 use Rattle.types.specs.Reasons.{reason_fits}
-use Rattle.rules.specs.Names.{Output}
+use Rattle.rules.specs.Names.{Output, Reason}
 use Rattle.rules.specs.State.{Queue, queued, closes, is_close}
 use Rattle.rules.specs.Outputs.{close_transport}
-use Rattle.rules.specs.Calls.{max_outs, texts_fit}
-use Rattle.queue.specs.View.{outs_of, OutsWf, sound_outs}
+use Rattle.rules.specs.Calls.{max_outs, room_for_call, texts_fit}
+use Rattle.queue.specs.View.{outs_of, OutsWf, sound_outs, takes}
+use Rattle.types.specs.Outputs.{output_of}
+use Rattle.queue.specs.Added.{no_line, lines_of, said_in}
+use Rattle.queue.specs.declared.added.Added.{Added}
 use Rattle.queue.specs.declared.Outputs.{Outputs}
 
 pub outs-length : (q : Outputs) → length (outs_of q) ≡ q.count
@@ -75,3 +79,41 @@ pub sound-outs : (q : Outputs) → sound_outs q ≡ true → OutsWf q
 sound-outs q e =
     let f = and_left (ltb q.head max_outs && leb q.count max_outs) _ e in
     record { head_in = ltb-true _ _ (and_left _ (leb q.count max_outs) f); count_in = leb-true _ _ (and_right (ltb q.head max_outs) _ f) }
+
+-- ---- what a call says
+pub map-append : {A B : Type 0} (f : A → B) (l m : List A) → map f (l ++ m) ≡ map f l ++ map f m
+map-append f [] m = refl
+map-append f (x ∷ l) m = ap (λ (k : List _). f x ∷ k) (map-append f l m)
+
+-- nothing said is no output
+pub said-none : (kept given : Reason) (a : Added) → a.count ≡ 0 → said_in kept given a ≡ []
+unfolding said_in lines_of
+said-none kept given a e = ap (map (output_of kept given)) (ring-none room_for_call no_line a.lines 0 a.count e)
+
+-- the first i + 1 lines are the first i and one more
+pub first_more : (kept given : Reason) (a : Added) (i : ℕ) → i < room_for_call → map (output_of kept given) (ring_list room_for_call no_line a.lines 0 (i + 1)) ≡ map (output_of kept given) (ring_list room_for_call no_line a.lines 0 i) ++ (output_of kept given (get_or a.lines i no_line) ∷ [])
+first_more kept given a i h =
+    let f = output_of kept given in
+    let r = ring_list room_for_call no_line a.lines 0 in
+    let low : wrap room_for_call (0 + i) ≡ i = wrap-low room_for_call (0 + i) (omega arith) ∙ omega arith in
+    let more : r (suc i) ≡ r i ++ (get_or a.lines i no_line ∷ []) = ring-snoc room_for_call no_line a.lines 0 i (omega arith) h ∙ ap (λ (p : ℕ). r i ++ (get_or a.lines p no_line ∷ [])) low in
+    rw add-one (ap (map f) more ∙ map-append f (r i) (get_or a.lines i no_line ∷ []))
+
+-- ---- room for a call's outputs
+pub record Taken (q : Outputs) (n : ℕ) : Type 0 where
+  pub wf : OutsWf q
+  pub few : n ≤ room_for_call
+  pub fits : q.count + n ≤ max_outs
+
+pub taken-room : (q : Outputs) (n : ℕ) → takes q n ≡ true → Taken q n
+taken-room q n e =
+    let l = ltb q.head max_outs in
+    let k = leb q.count max_outs in
+    let m = leb n room_for_call in
+    let f = and_left (l && k && m) _ e in
+    let g = and_left (l && k) m f in
+    record {
+      wf = record { head_in = ltb-true _ _ (and_left l k g); count_in = leb-true _ _ (and_right l k g) };
+      few = leb-true _ _ (and_right (l && k) m f);
+      fits = leb-true _ _ (and_right (l && k && m) _ e);
+    }

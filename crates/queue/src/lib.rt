@@ -9,12 +9,15 @@ ghost use Rattle.rules.specs.Names.said;
 ghost use Rattle.rules.specs.Names.event as ev;
 ghost use Rattle.rules.specs.Calls.{transport_closed};
 ghost use Rattle.types.specs.Reasons.{no_text};
-ghost use Rattle.queue.specs.View.{queue_of, OutsWf, QueueIs, empty_queue, PolledIs, sound_outs};
+ghost use Rattle.queue.specs.View.{queue_of, OutsWf, QueueIs, empty_queue, PolledIs, sound_outs, room_of, takes, Filled};
 
+use crate::added::{Added, ROOM_FOR_CALL};
 use types::ids::MaybeSeq;
 use types::messages::{MessageName, NotApplied, SessionMessage};
 use types::output::{Event, Output, Said};
 use types::reasons::Reason;
+
+pub mod added;
 
 /// The places of the queue (01, "Built, and not built").
 pub const MAX_OUTPUTS: usize = 32;
@@ -34,6 +37,20 @@ pub struct Polled {
     pub queue: Outputs,
     pub output: Output,
     pub some: bool,
+}
+
+/// What a call has to know of the queue before it is made: whether it passes the record check (1), and whether six places are free (7).
+#[derive(Clone, Copy)]
+pub struct Room {
+    pub good: bool,
+    pub free: bool,
+}
+
+/// The queue after a call's outputs were put into it, and whether they were.
+#[derive(Clone, Copy)]
+pub struct Put {
+    pub queue: Outputs,
+    pub done: bool,
 }
 
 /// The place that a sum of two places stands for.
@@ -86,6 +103,52 @@ impl Outputs {
         ensures { result ≡ length (queue_of self).outs }
     {
         self.count
+    }
+
+    /// What a call says, behind what is there. A queue that is out of order, or has too few places left, stays as it is, and the answer says so.
+    pub fn put(mut self, added: Added, kept: Reason, given: Reason) -> Put
+        ensures { Filled self added kept given result.queue result.done }
+    {
+        if added.count == 0 {
+            return Put {
+                queue: self,
+                done: true,
+            };
+        }
+        if !self.takes(added.count) {
+            return Put {
+                queue: self,
+                done: false,
+            };
+        }
+        let mut i = 0;
+        loop {
+            if i == added.count {
+                return Put {
+                    queue: self,
+                    done: true,
+                };
+            }
+            let line = added.lines[i];
+            self = self.push(line.output(kept, given));
+            i = i + 1;
+        }
+    }
+
+    /// Whether so many outputs of one call have a place.
+    fn takes(self, more: usize) -> bool
+        ensures { result ≡ takes self more }
+    {
+        if self.head >= MAX_OUTPUTS {
+            return false;
+        }
+        if MAX_OUTPUTS < self.count {
+            return false;
+        }
+        if more > ROOM_FOR_CALL {
+            return false;
+        }
+        self.count + more <= MAX_OUTPUTS
     }
 
     /// Adds an output at the back. Asking for the transport to be closed sets the flag.
@@ -218,6 +281,13 @@ impl Outputs {
         self.event_with(Event::Ignored(message), reason)
     }
 
+    /// Whether this side has asked for the transport to be closed and the host has not reported it closed yet.
+    pub fn transport_closing(self) -> bool
+        ensures { result ≡ (queue_of self).closing }
+    {
+        self.closing
+    }
+
     /// The host reported the transport closed.
     pub fn transport_closed(mut self) -> Outputs
         requires { OutsWf self }
@@ -247,6 +317,22 @@ impl Outputs {
             queue: self,
             output,
             some: true,
+        }
+    }
+
+    /// What a call has to know of it.
+    pub fn room(self) -> Room
+        ensures { result ≡ room_of self }
+    {
+        if !self.sound() {
+            return Room {
+                good: false,
+                free: false,
+            };
+        }
+        Room {
+            good: true,
+            free: self.count + ROOM_FOR_CALL <= MAX_OUTPUTS,
         }
     }
 

@@ -36,6 +36,9 @@ pub use Rattle.types.specs.declared.messages.MessageName.TheVariants as name
 pub use Rattle.types.specs.declared.messages.SessionMessage.{SessionMessage}
 pub use Rattle.types.specs.declared.messages.SessionMessage.TheVariants as message
 pub use Rattle.types.specs.declared.output.Output.{Output}
+pub use Rattle.types.specs.declared.output.Line.{Line}
+pub use Rattle.types.specs.declared.output.Quote.{Quote}
+pub use Rattle.types.specs.declared.output.Quote.TheVariants as quote
 pub use Rattle.types.specs.declared.output.Said.{Said}
 pub use Rattle.types.specs.declared.output.Said.TheVariants as said
 pub use Rattle.types.specs.declared.output.Event.{Event}

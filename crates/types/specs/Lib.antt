@@ -3,3 +3,4 @@ pub mod Flows
 pub mod States
 pub mod Messages
 pub mod Reasons
+pub mod Outputs

@@ -8,8 +8,18 @@ use Rattle.types.specs.declared.binding.MaybeBinding.{MaybeBinding}
 use Rattle.types.specs.declared.binding.MaybeBinding.TheVariants as linked
 use Rattle.types.specs.declared.binding.Bound.{Bound}
 use Rattle.types.specs.declared.binding.Bound.TheVariants as bound
+use Rattle.types.specs.declared.answers.Answer.{Answer}
+use Rattle.types.specs.declared.answers.Answer.TheVariants as answer
 use Rattle.types.specs.declared.answers.SessionStatus.{SessionStatus}
 use Rattle.types.specs.declared.answers.SessionStatus.TheVariants as status
+
+-- whether an answer is a refusal: equal to `is_refused` of calls, specs/View.antt
+abbrev pub is_refused : Answer → Bool
+is_refused answer.Ok = false
+is_refused (answer.Delivered d) = false
+is_refused (answer.Sent n) = false
+is_refused (answer.Batch b) = false
+is_refused (answer.Refused r) = true
 
 abbrev pub is_stay : Bound → Bool
 is_stay bound.Stay = true

@@ -1,4 +1,7 @@
 //! What a call answers (01, "Refusal numbers" and "Trace program").
+ghost use Rattle.std.specs.Prelude.{◌≡◌};
+ghost use Rattle.types.specs.States.{is_refused};
+
 use crate::ids::{MaybeSeq, SeqNum};
 
 /// What becomes of an application message.
@@ -70,4 +73,18 @@ pub enum Answer {
     Sent(MaybeSeq),
     Batch(RetransmitBatch),
     Refused(Refusal),
+}
+
+impl Answer {
+    pub fn is_refused(self) -> bool
+        ensures { result ≡ is_refused self }
+    {
+        match self {
+            Answer::Ok => false,
+            Answer::Delivered(delivery) => false,
+            Answer::Sent(seq) => false,
+            Answer::Batch(batch) => false,
+            Answer::Refused(refusal) => true,
+        }
+    }
 }

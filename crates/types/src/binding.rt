@@ -1,6 +1,6 @@
 //! A session bound to one transport (session.rs, Bound to Binding).
 ghost use Rattle.std.specs.Prelude.{◌≡◌};
-ghost use Rattle.types.specs.States.{is_established, is_closing, is_stay, status_of};
+ghost use Rattle.types.specs.States.{is_established, is_closing, is_stay, status_of, leave_sequence};
 
 use crate::answers::SessionStatus;
 use crate::ids::{Instant, MaybeInstant, TerminationCode};
@@ -43,14 +43,26 @@ pub struct StateSlot {
     pub it: BindState,
 }
 
+impl StateSlot {
+    pub fn get(self) -> BindState
+        ensures { result ≡ self.it }
+    {
+        let it = self.it;
+        it
+    }
+}
+
 /// A session bound to one transport. Keepalives are nanoseconds.
 #[derive(Clone, Copy)]
 pub struct Binding {
     pub state: StateSlot,
     pub local_keepalive: u64,
     pub remote_keepalive: u64,
+    /// When this side last sent an application message or a heartbeat.
     pub last_keepalive: Instant,
+    /// When the peer last sent anything.
     pub last_received: Instant,
+    /// Whether the receiver can number this side's next application message by itself; whatever switches context clears it (FIXP 3.5.4).
     pub in_sequence: bool,
 }
 
@@ -89,6 +101,15 @@ impl Binding {
             BindState::Terminating { sent_at, code } => false,
             BindState::Closing { deadline } => true,
         }
+    }
+
+    /// This side sent a session message other than a Sequence: the receiver may no longer number its next application message by itself, so that
+    /// one goes behind a Sequence (FIXP, Appendix A 7.3.1.1). A Sequence too many is only a heartbeat, so this is always safe.
+    pub fn leave_sequence(mut self) -> Binding
+        ensures { result ≡ leave_sequence self }
+    {
+        self.in_sequence = false;
+        self
     }
 }
 

@@ -1,5 +1,8 @@
 //! The configuration of a session (config.rs, as 01 fixes it).
 
+/// The largest `max_pending_gaps` (01, refusal 2).
+pub const MAX_PENDING: u16 = 64;
+
 /// What to do with a stalled request; 01 numbers them 1 to 4.
 #[derive(Clone, Copy)]
 pub enum RetransmitStallPolicy {

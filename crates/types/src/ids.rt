@@ -6,6 +6,16 @@ ghost use Rattle.types.specs.Flows.{is_sequenced, is_recoverable, is_idempotent,
 /// 2^64-1, the null value of a NextSeqNo, and the stamp of a clock out of range.
 pub const ALL_ONES: u64 = 18446744073709551615;
 
+/// The largest count of a batch or a report.
+pub const MAX_U32: u32 = 4294967295;
+
+/// A count as a length.
+pub fn wide(x: u32) -> u64
+    ensures { result ≡ x }
+{
+    x as u64
+}
+
 /// A sequence number of an application message.
 #[derive(Clone, Copy)]
 pub struct SeqNum(pub u64);

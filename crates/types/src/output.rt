@@ -1,4 +1,7 @@
 //! What a step queues for the host, in order (output.rs).
+ghost use Rattle.std.specs.Prelude.{◌≡◌};
+ghost use Rattle.types.specs.Outputs.{output, output_of};
+
 use crate::ids::{MaybeSeq, RetransmitRejectCode, SeqNum, TerminationCode};
 use crate::messages::{MessageName, NotApplied, SessionMessage};
 use crate::reasons::Reason;
@@ -67,4 +70,47 @@ pub struct Output {
     pub said: Said,
     pub reason: u8,
     pub text: Reason,
+}
+
+impl Output {
+    pub fn new(said: Said, reason: u8, text: Reason) -> Output
+        ensures { result ≡ output said reason text }
+    {
+        Output { said, reason, text }
+    }
+}
+
+/// Whose bytes a line quotes: nobody's, those kept beside the binding since our own Terminate, or those given with this call.
+#[derive(Clone, Copy)]
+pub enum Quote {
+    None,
+    Kept,
+    Given,
+}
+
+/// An output as a step says it. Its bytes are filled in when it is queued, so that steps hand on no reason.
+#[derive(Clone, Copy)]
+pub struct Line {
+    pub said: Said,
+    pub reason: u8,
+    pub quote: Quote,
+}
+
+impl Line {
+    /// The output that it stands for.
+    pub fn output(self, kept: Reason, given: Reason) -> Output
+        ensures { result ≡ output_of kept given self }
+    {
+        let said = self.said;
+        let reason = self.reason;
+        let quote = self.quote;
+        match quote {
+            Quote::None => {
+                let none = Reason::none();
+                Output::new(said, reason, none)
+            }
+            Quote::Kept => Output::new(said, reason, kept),
+            Quote::Given => Output::new(said, reason, given),
+        }
+    }
 }

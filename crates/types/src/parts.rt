@@ -1,5 +1,7 @@
 //! The parts of a session (session.rs, Gap to Provider). A part that may be absent is an enum of its own, and stands in a slot:
 //! a field that is an enum is not stored to.
+ghost use Rattle.std.specs.Prelude.{◌≡◌};
+
 use crate::ids::{Instant, MaybeSeq, Nanotime, SeqNum};
 
 /// A half-open range of sequence numbers, from..end.
@@ -24,8 +26,11 @@ pub struct Outstanding {
     pub count: u32,
     pub delivered: u32,
     pub last_progress: Instant,
+    /// A Sequence or Context cut the last batch short of its count: the provider stopped serving it (FIXP 3.5.4).
     pub interrupted: bool,
+    /// The last batch came whole and the request is still short: a provider of one batch a request is done with it (FIXP 4.6.2.2).
     pub batch_complete: bool,
+    /// The stall was reported and is waited out: no timer runs until the provider makes progress again.
     pub stall_reported: bool,
 }
 
@@ -38,7 +43,9 @@ pub enum MaybeOutstanding {
 /// The peer has sent FinishedSending; on a sequenced flow `end` is LastSeqNo + 1 (FIXP 4.7).
 #[derive(Clone, Copy)]
 pub struct PeerFinished {
+    /// FinishedReceiving has gone out (FIXP 4.7.2).
     pub receiving_sent: bool,
+    /// On a sequenced flow LastSeqNo + 1: no NextSeqNo may pass it any more (FIXP 6.3).
     pub end: MaybeSeq,
 }
 
@@ -81,9 +88,27 @@ pub struct SeqSlot {
     pub it: MaybeSeq,
 }
 
+impl SeqSlot {
+    pub fn get(self) -> MaybeSeq
+        ensures { result ≡ self.it }
+    {
+        let it = self.it;
+        it
+    }
+}
+
 #[derive(Clone, Copy)]
 pub struct OutstandingSlot {
     pub it: MaybeOutstanding,
+}
+
+impl OutstandingSlot {
+    pub fn get(self) -> MaybeOutstanding
+        ensures { result ≡ self.it }
+    {
+        let it = self.it;
+        it
+    }
 }
 
 #[derive(Clone, Copy)]
@@ -91,12 +116,39 @@ pub struct ReplaySlot {
     pub it: MaybeReplay,
 }
 
+impl ReplaySlot {
+    pub fn get(self) -> MaybeReplay
+        ensures { result ≡ self.it }
+    {
+        let it = self.it;
+        it
+    }
+}
+
 #[derive(Clone, Copy)]
 pub struct ProviderSlot {
     pub it: MaybeProvider,
 }
 
+impl ProviderSlot {
+    pub fn get(self) -> MaybeProvider
+        ensures { result ≡ self.it }
+    {
+        let it = self.it;
+        it
+    }
+}
+
 #[derive(Clone, Copy)]
 pub struct PeerFinishedSlot {
     pub it: MaybePeerFinished,
+}
+
+impl PeerFinishedSlot {
+    pub fn get(self) -> MaybePeerFinished
+        ensures { result ≡ self.it }
+    {
+        let it = self.it;
+        it
+    }
 }
