@@ -272,16 +272,18 @@ fn room() -> [u8; MAX_OUTPUT] {
     [0u8; MAX_OUTPUT]
 }
 
-/// Runs a whole trace and writes its lines.
+/// Runs a whole trace and writes its lines. A write that fails is the only error; some of the lines may be written then.
 pub fn print_trace<R: Print>(rt: &R, s: &[u8]) -> io::Result<()> {
     let mut out = room();
     let n = run_trace(s, &mut out);
     write_out(rt, &out, n)
 }
 
-/// Reads until the buffer is full or the input ends: how many bytes stand at its start.
+/// Reads until the buffer is full or the input ends: how many bytes stand at its start. A read that fails is the only error; what was read before
+/// it stands in the buffer, which has its length as ever.
 pub fn read_full<R: Read>(reader: &mut R, buf: &mut [u8]) -> io::Result<usize>
-    ensures { IfOk result (λ n. n ≤ length buf.new) }
+    ensures within { IfOk result (λ n. n ≤ length buf.new) }
+    ensures length_kept { length buf.new ≡ length buf.old }
 {
     let mut done = 0;
     while done < buf.len() {
