@@ -7,15 +7,12 @@ ghost use Rattle.std.specs.Prelude.{◌≤◌};
 use calls::Called;
 use queue::Outputs;
 use session::Session;
-use types::binding::{Binding, Link, MaybeBinding};
-use types::config::{FixpConfig, MaybeDuration, RetransmitStallPolicy};
-use types::ids::{ALL_ONES, FlowType, Instant, MaybeSeq, Nanotime, SeqNum, SessionId};
+use types::binding::{Binding, Link};
+use types::config::{FixpConfig, RetransmitStallPolicy};
+use types::ids::{ALL_ONES, FlowType, Instant, Nanotime, SeqNum, SessionId};
 use types::messages::{PeerMessage, Retransmission, RetransmitRequest, Sequence, SessionMessage};
 use types::output::{Event, Output, Said};
-use types::parts::{
-    MaybeGap, MaybeOutstanding, MaybeProvider, MaybeReplay, Outstanding, OutstandingSlot, Provider,
-    ProviderSlot, Replay, ReplaySlot, SeqSlot,
-};
+use types::parts::{Gap, Outstanding, Provider, Replay};
 use types::reasons::Reason;
 
 /// A record, its link taken apart; `bound` says that it is bound.
@@ -38,7 +35,7 @@ fn bound() -> Called {
         max_retransmit_count: 10,
         max_pending_gaps: 64,
         retransmit_timeout: LONG,
-        peer_silence_grace: MaybeDuration::None,
+        peer_silence_grace: None,
         retransmit_stall_policy: RetransmitStallPolicy::EventOnly,
     };
     let opened = calls::open(
@@ -58,7 +55,7 @@ fn bound() -> Called {
         Nanotime(0),
         LONG,
         LONG,
-        MaybeSeq::Some(SeqNum(1)),
+        Some(SeqNum(1)),
     )
 }
 
@@ -131,7 +128,7 @@ fn bound_again(called: Called) -> Called {
         Nanotime(7),
         LONG,
         LONG,
-        MaybeSeq::Some(SeqNum(expected(session))),
+        Some(SeqNum(expected(session))),
     )
 }
 
@@ -142,8 +139,7 @@ fn hold(called: Called) -> Held {
     let mut queue = called.queue;
     queue.count = 0;
     let reason = link.reason;
-    let it = link.binding;
-    let MaybeBinding::Some(binding) = it else {
+    let Some(binding) = link.binding else {
         return Held {
             session,
             binding: bare(),
@@ -163,7 +159,7 @@ fn hold(called: Called) -> Held {
 
 fn link(binding: Binding, reason: Reason) -> Link {
     Link {
-        binding: MaybeBinding::Some(binding),
+        binding: Some(binding),
         reason,
     }
 }
@@ -205,9 +201,7 @@ fn thousands(gaps: usize, runs: usize) -> u64 {
 
 fn bare() -> Binding {
     Binding {
-        state: types::binding::StateSlot {
-            it: types::binding::BindState::Established,
-        },
+        state: types::binding::BindState::Established,
         local_keepalive: 0,
         remote_keepalive: 0,
         last_keepalive: Instant(0),
@@ -249,13 +243,11 @@ pub extern "C" fn fixp_bench_live(turns: u64, gaps: u64, runs: u64) -> u64 {
             return 0;
         }
         let number = fast::live(session, binding);
-        if let MaybeSeq::Some(seq) = number {
+        if let Some(seq) = number {
             if seq.0 == ALL_ONES {
                 return 0;
             }
-            let slot = SeqSlot {
-                it: MaybeSeq::Some(SeqNum(seq.0 + 1)),
-            };
+            let slot = Some(SeqNum(seq.0 + 1));
             session.inbound_next = slot;
             session.start_pending = false;
             binding.last_received = now;
@@ -428,7 +420,7 @@ pub extern "C" fn fixp_bench_round(turns: u64) -> u64 {
         }
         let next = SeqNum(following(session));
         let stamp = Nanotime(i % 1000);
-        let MaybeGap::Some(gap) = fast::lost(session, binding, next, stamp) else {
+        let Some(gap) = fast::lost(session, binding, next, stamp) else {
             return 0;
         };
         let from = gap.from;
@@ -442,10 +434,7 @@ pub extern "C" fn fixp_bench_round(turns: u64) -> u64 {
         missing.count = 1;
         gaps.missing = missing;
         session.gaps = gaps;
-        let slot = SeqSlot {
-            it: MaybeSeq::Some(next),
-        };
-        session.inbound_next = slot;
+        session.inbound_next = Some(next);
         session.awaiting_resume = false;
         let request = asked(stamp, from, now);
         session.outstanding = request;
@@ -459,24 +448,21 @@ pub extern "C" fn fixp_bench_round(turns: u64) -> u64 {
             return 0;
         }
         let header = header_of(session, stamp, from);
-        let MaybeOutstanding::Some(outstanding) = fast::header(session, binding, header) else {
+        let Some(outstanding) = fast::header(session, binding, header) else {
             return 0;
         };
         let begun = begun_slot(outstanding, now);
         session.outstanding = begun;
         session.awaiting_resume = true;
-        let batch = ReplaySlot {
-            it: MaybeReplay::Some(Replay {
+        session.replay = Some(Replay {
                 next: from,
                 remaining: 1,
-            }),
-        };
-        session.replay = batch;
+            });
         binding.last_received = now;
         if !fast::is_ready(session, reason, queue) {
             return 0;
         }
-        let MaybeSeq::Some(last) = fast::recovered(session, binding) else {
+        let Some(last) = fast::recovered(session, binding) else {
             return 0;
         };
         let mut whole = session.gaps;
@@ -484,14 +470,8 @@ pub extern "C" fn fixp_bench_round(turns: u64) -> u64 {
         none_missing.count = 0;
         whole.missing = none_missing;
         session.gaps = whole;
-        let none = OutstandingSlot {
-            it: MaybeOutstanding::None,
-        };
-        session.outstanding = none;
-        let over = ReplaySlot {
-            it: MaybeReplay::None,
-        };
-        session.replay = over;
+        session.outstanding = None;
+        session.replay = None;
         binding.last_received = now;
         queue.slots[0] = event(Event::RecoveryComplete);
         queue.count = 0;
@@ -507,13 +487,11 @@ pub extern "C" fn fixp_bench_round(turns: u64) -> u64 {
             return 0;
         }
         let number = fast::live(session, binding);
-        if let MaybeSeq::Some(seq) = number {
+        if let Some(seq) = number {
             if seq.0 == ALL_ONES {
                 return 0;
             }
-            let slot = SeqSlot {
-                it: MaybeSeq::Some(SeqNum(seq.0 + 1)),
-            };
+            let slot = Some(SeqNum(seq.0 + 1));
             session.inbound_next = slot;
             session.start_pending = false;
             binding.last_received = now;
@@ -581,14 +559,11 @@ pub extern "C" fn fixp_bench_serve(turns: u64) -> u64 {
             return 0;
         }
         let serving = fast::batch(session, binding, 2);
-        if let MaybeProvider::Some(v) = serving {
+        if let Some(v) = serving {
             let next = v.from;
             let stamp = v.request_timestamp;
             queue.slots[0] = batch_output(session, v, next);
-            let none = ProviderSlot {
-                it: MaybeProvider::None,
-            };
-            session.provider = none;
+            session.provider = None;
             binding.in_sequence = false;
             binding.last_keepalive = now;
             sum = std::num::wrapping_add_u64(sum, stamp.0);
@@ -610,7 +585,7 @@ pub extern "C" fn fixp_bench_serve(turns: u64) -> u64 {
 /// The number expected next.
 fn expected(session: Session) -> u64 {
     let next = session.next_inbound_seq();
-    let MaybeSeq::Some(seq) = next else {
+    let Some(seq) = next else {
         return 0;
     };
     seq.0
@@ -626,8 +601,7 @@ fn following(session: Session) -> u64 {
 }
 
 fn asked(stamp: Nanotime, from: SeqNum, now: Instant) -> OutstandingSlot {
-    OutstandingSlot {
-        it: MaybeOutstanding::Some(Outstanding {
+    Some(Outstanding {
             timestamp: stamp,
             from,
             count: 1,
@@ -636,8 +610,7 @@ fn asked(stamp: Nanotime, from: SeqNum, now: Instant) -> OutstandingSlot {
             interrupted: false,
             batch_complete: false,
             stall_reported: false,
-        }),
-    }
+        })
 }
 
 fn request_output(session: Session, stamp: Nanotime, from: SeqNum) -> Output {
@@ -666,9 +639,7 @@ fn begun_slot(outstanding: Outstanding, now: Instant) -> OutstandingSlot {
     begun.interrupted = false;
     begun.batch_complete = false;
     begun.stall_reported = false;
-    OutstandingSlot {
-        it: MaybeOutstanding::Some(begun),
-    }
+    Some(begun)
 }
 
 fn request_of(session: Session, stamp: u64) -> RetransmitRequest {
@@ -684,14 +655,12 @@ fn request_of(session: Session, stamp: u64) -> RetransmitRequest {
 fn provider_of(request: RetransmitRequest) -> ProviderSlot {
     let request_timestamp = request.timestamp;
     let from = request.from_seq_no;
-    ProviderSlot {
-        it: MaybeProvider::Some(Provider {
+    Some(Provider {
             request_timestamp,
             from,
             count: 2,
             sent: 0,
-        }),
-    }
+        })
 }
 
 fn batch_output(session: Session, provider: Provider, next: SeqNum) -> Output {

@@ -1,10 +1,9 @@
 -- What a record and an answered call stand for in the rule book, and what each call promises.
-use Rattle.std.specs.Prelude.{◌≡◌, Bool, true, false, ◌&&◌}
+use Rattle.std.specs.Prelude.{◌≡◌, Bool, true, false, ◌&&◌, None, Ok, Err}
 use Rattle.types.specs.Reasons.{reason_fits}
 use Rattle.rules.specs.Names.{Link, Reason, Answer, Refusal, FixpConfig}
-use Rattle.rules.specs.Names.duration
 use Rattle.rules.specs.Names.policy
-use Rattle.rules.specs.Names.answer
+use Rattle.rules.specs.Names.verdict
 use Rattle.rules.specs.Names.refusal
 use Rattle.rules.specs.Local.{Refused, passes, refuses}
 use Rattle.rules.specs.Calls.{World, world, Call, wrong, does, Ran, link_after, config_fits}
@@ -38,7 +37,7 @@ pub record Unchanged (r : Called) (x : Refusal) (s : Session) (l : Link) (q : Ou
   pub session : r.session ≡ s
   pub link : r.link ≡ l
   pub queue : r.queue ≡ q
-  pub answer : r.answer ≡ answer.Refused x
+  pub answer : r.answer ≡ Err x
 
 abbrev pub AnsweredBy : Refused → Called → Ran → Session → Link → Outputs → Type 0
 AnsweredBy passes r m s l q = Done r m
@@ -55,14 +54,14 @@ Answered c r s l q = AnsweredBy (of_good (good_record s l q) (wrong c (world_of 
 
 -- a step's parts, its binding kept or dropped
 abbrev pub called_of : Step → Reason → Called
-called_of t reason = record { session = t.session; link = link_after t.bound t.binding reason; queue = t.queue; answer = t.answer.it }
+called_of t reason = record { session = t.session; link = link_after t.bound t.binding reason; queue = t.queue; answer = t.answer }
 
 abbrev pub is_refused : Answer → Bool
-is_refused answer.Ok = false
-is_refused (answer.Delivered d) = false
-is_refused (answer.Sent n) = false
-is_refused (answer.Batch b) = false
-is_refused (answer.Refused r) = true
+is_refused (Ok verdict.Done) = false
+is_refused (Ok (verdict.Delivered d)) = false
+is_refused (Ok (verdict.Sent n)) = false
+is_refused (Ok (verdict.Batch b)) = false
+is_refused (Err r) = true
 
 -- ---- a new session
 -- of the session that stands in for one that was not opened
@@ -73,11 +72,11 @@ least_config =
       max_retransmit_count = 1;
       max_pending_gaps = 1;
       retransmit_timeout = 0;
-      peer_silence_grace = duration.None;
+      peer_silence_grace = None;
       retransmit_stall_policy = policy.EventOnly;
     }
 
 -- the new session, or the refusal of its configuration: then what comes back is for no one to use
 abbrev pub opened_as : Refused → (FixpConfig → World) → FixpConfig → Ran
-opened_as passes w config = record { world = w config; answer = answer.Ok }
-opened_as (refuses x) w config = record { world = w least_config; answer = answer.Refused x }
+opened_as passes w config = record { world = w config; answer = Ok verdict.Done }
+opened_as (refuses x) w config = record { world = w least_config; answer = Err x }

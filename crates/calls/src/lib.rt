@@ -10,11 +10,9 @@ ghost use Rattle.calls.specs.View.{good_record, Answered, called_of, is_refused,
 use queue::Outputs;
 use session::{Session, Step};
 use types::answers::{Answer, Refusal};
-use types::binding::{Link, MaybeBinding};
-use types::config::{FixpConfig, MaybeDuration, RetransmitStallPolicy};
-use types::ids::{
-    FlowType, Instant, MaybeSeq, Nanotime, RetransmitRejectCode, SessionId, TerminationCode,
-};
+use types::binding::{Link, Binding};
+use types::config::{FixpConfig, RetransmitStallPolicy};
+use types::ids::{FlowType, Instant, SeqNum, Nanotime, RetransmitRejectCode, SessionId, TerminationCode};
 use types::messages::PeerMessage;
 use types::reasons::Reason;
 
@@ -78,7 +76,7 @@ fn refused(session: Session, link: Link, queue: Outputs, refusal: Refusal) -> Ca
         session,
         link,
         queue,
-        answer: Answer::Refused(refusal),
+        answer: Err(refusal),
     }
 }
 
@@ -88,7 +86,7 @@ fn unlink() -> Link
 {
     let reason = Reason::none();
     Link {
-        binding: MaybeBinding::None,
+        binding: None,
         reason,
     }
 }
@@ -99,8 +97,7 @@ fn answered(step: Step, reason: Reason) -> Called
 {
     let session = step.session;
     let queue = step.queue;
-    let slot = step.answer;
-    let answer = slot.it;
+    let answer = step.answer;
     let bound = step.bound;
     if !bound.is_stay() {
         let link = unlink();
@@ -113,7 +110,7 @@ fn answered(step: Step, reason: Reason) -> Called
     }
     let binding = step.binding;
     let link = Link {
-        binding: MaybeBinding::Some(binding),
+        binding: Some(binding),
         reason,
     };
     Called {
@@ -128,11 +125,11 @@ fn is_refused(answer: Answer) -> bool
     ensures { result ≡ is_refused answer }
 {
     match answer {
-        Answer::Ok => false,
-        Answer::Delivered(delivery) => false,
-        Answer::Sent(seq) => false,
-        Answer::Batch(batch) => false,
-        Answer::Refused(refusal) => true,
+        Ok(Verdict::Done) => false,
+        Ok(Verdict::Delivered(delivery)) => false,
+        Ok(Verdict::Sent(seq)) => false,
+        Ok(Verdict::Batch(batch)) => false,
+        Err(refusal) => true,
     }
 }
 
@@ -145,15 +142,14 @@ pub fn bind(
     stamp: Nanotime,
     local_keepalive: u64,
     remote_keepalive: u64,
-    next: MaybeSeq,
+    next: Option<SeqNum>,
 ) -> Called
     ensures { Answered (bind_call now stamp local_keepalive remote_keepalive next) result session link queue }
 {
     if !is_good(session, link, queue) {
         return refused(session, link, queue, Refusal::BadRecord);
     }
-    let it = link.binding;
-    let MaybeBinding::None = it else {
+    let None = link.binding else {
         return refused(session, link, queue, Refusal::AlreadyBound);
     };
     if !has_room(queue) {
@@ -177,7 +173,7 @@ pub fn release(session: Session, link: Link, queue: Outputs) -> Called
         session: released,
         link: none,
         queue,
-        answer: Answer::Ok,
+        answer: Ok(Verdict::Done),
     }
 }
 
@@ -196,8 +192,7 @@ pub fn on_peer(
     if !is_good(session, link, queue) {
         return refused(session, link, queue, Refusal::BadRecord);
     }
-    let it = link.binding;
-    let MaybeBinding::Some(binding) = it else {
+    let Some(binding) = link.binding else {
         return refused(session, link, queue, Refusal::NotBound);
     };
     if !text.fits() {
@@ -224,8 +219,7 @@ pub fn on_application(
     if !is_good(session, link, queue) {
         return refused(session, link, queue, Refusal::BadRecord);
     }
-    let it = link.binding;
-    let MaybeBinding::Some(binding) = it else {
+    let Some(binding) = link.binding else {
         return refused(session, link, queue, Refusal::NotBound);
     };
     if !has_room(queue) {
@@ -249,8 +243,7 @@ pub fn on_timeout(
     if !is_good(session, link, queue) {
         return refused(session, link, queue, Refusal::BadRecord);
     }
-    let it = link.binding;
-    let MaybeBinding::Some(binding) = it else {
+    let Some(binding) = link.binding else {
         return refused(session, link, queue, Refusal::NotBound);
     };
     if !has_room(queue) {
@@ -268,16 +261,14 @@ pub fn send_application(session: Session, link: Link, queue: Outputs, now: Insta
     if !is_good(session, link, queue) {
         return refused(session, link, queue, Refusal::BadRecord);
     }
-    let it = link.binding;
-    let MaybeBinding::Some(binding) = it else {
+    let Some(binding) = link.binding else {
         return refused(session, link, queue, Refusal::NotBound);
     };
     if !has_room(queue) {
         return refused(session, link, queue, Refusal::OutputFull);
     }
     let step = session.send_application(binding, queue, now);
-    let slot = step.answer;
-    let answer = slot.it;
+    let answer = step.answer;
     if is_refused(answer) {
         return Called {
             session,
@@ -304,16 +295,14 @@ pub fn terminate(
     if !is_good(session, link, queue) {
         return refused(session, link, queue, Refusal::BadRecord);
     }
-    let it = link.binding;
-    let MaybeBinding::Some(binding) = it else {
+    let Some(binding) = link.binding else {
         return refused(session, link, queue, Refusal::NotBound);
     };
     if !has_room(queue) {
         return refused(session, link, queue, Refusal::OutputFull);
     }
     let step = session.terminate(binding, queue, code, text, now);
-    let slot = step.answer;
-    let answer = slot.it;
+    let answer = step.answer;
     if is_refused(answer) {
         return Called {
             session,
@@ -332,8 +321,7 @@ pub fn retransmit(session: Session, link: Link, queue: Outputs, now: Instant, co
     if !is_good(session, link, queue) {
         return refused(session, link, queue, Refusal::BadRecord);
     }
-    let it = link.binding;
-    let MaybeBinding::Some(binding) = it else {
+    let Some(binding) = link.binding else {
         return refused(session, link, queue, Refusal::NotBound);
     };
     if count == 0 {
@@ -343,8 +331,7 @@ pub fn retransmit(session: Session, link: Link, queue: Outputs, now: Instant, co
         return refused(session, link, queue, Refusal::OutputFull);
     }
     let step = session.retransmit(binding, queue, count, now);
-    let slot = step.answer;
-    let answer = slot.it;
+    let answer = step.answer;
     if is_refused(answer) {
         return Called {
             session,
@@ -370,16 +357,14 @@ pub fn reject_retransmit_request(
     if !is_good(session, link, queue) {
         return refused(session, link, queue, Refusal::BadRecord);
     }
-    let it = link.binding;
-    let MaybeBinding::Some(binding) = it else {
+    let Some(binding) = link.binding else {
         return refused(session, link, queue, Refusal::NotBound);
     };
     if !has_room(queue) {
         return refused(session, link, queue, Refusal::OutputFull);
     }
     let step = session.reject_retransmit_request(binding, queue, code, text);
-    let slot = step.answer;
-    let answer = slot.it;
+    let answer = step.answer;
     if is_refused(answer) {
         return Called {
             session,
@@ -399,13 +384,11 @@ pub fn end_retransmission(session: Session, link: Link, queue: Outputs) -> Calle
     if !is_good(session, link, queue) {
         return refused(session, link, queue, Refusal::BadRecord);
     }
-    let it = link.binding;
-    let MaybeBinding::Some(binding) = it else {
+    let Some(binding) = link.binding else {
         return refused(session, link, queue, Refusal::NotBound);
     };
     let step = session.end_retransmission(binding, queue);
-    let slot = step.answer;
-    let answer = slot.it;
+    let answer = step.answer;
     if is_refused(answer) {
         return Called {
             session,
@@ -427,7 +410,7 @@ fn least() -> FixpConfig
         max_retransmit_count: 1,
         max_pending_gaps: 1,
         retransmit_timeout: 0,
-        peer_silence_grace: MaybeDuration::None,
+        peer_silence_grace: None,
         retransmit_stall_policy: RetransmitStallPolicy::EventOnly,
     }
 }
@@ -452,6 +435,6 @@ pub fn open(
         session,
         link,
         queue,
-        answer: Answer::Ok,
+        answer: Ok(Verdict::Done),
     }
 }

@@ -9,11 +9,9 @@ ghost use Rattle.fast.specs.Quick.{ready_record, Live, Same, Sent, Idle, Header,
 use queue::Outputs;
 use session::Session;
 use types::binding::Binding;
-use types::ids::{ALL_ONES, Instant, MaybeInstant, MaybeSeq, Nanotime, SeqNum};
+use types::ids::{ALL_ONES, Instant, Nanotime, SeqNum};
 use types::messages::{Retransmission, RetransmitRequest};
-use types::parts::{
-    Gap, MaybeGap, MaybeOutstanding, MaybePeerFinished, MaybeProvider, MaybeReplay,
-};
+use types::parts::{Gap, Outstanding, PeerFinished, Provider, Replay};
 use types::reasons::Reason;
 
 /// A count as a length.
@@ -45,38 +43,32 @@ pub fn is_ready(session: Session, reason: Reason, queue: Outputs) -> bool
 }
 
 /// A live message with a number.
-pub fn live(session: Session, binding: Binding) -> MaybeSeq
+pub fn live(session: Session, binding: Binding) -> Option<SeqNum>
     ensures { Live result (view session) binding }
 {
     if binding.is_closing() {
-        return MaybeSeq::None;
+        return None;
     }
     if session.awaiting_resume {
-        return MaybeSeq::None;
+        return None;
     }
     let remote_flow = session.remote_flow;
     if !remote_flow.is_sequenced() {
-        return MaybeSeq::None;
+        return None;
     }
-    let replay = session.replay;
-    let batch = replay.it;
-    let MaybeReplay::None = batch else {
-        return MaybeSeq::None;
+    let None = session.replay else {
+        return None;
     };
-    let peer_finished = session.peer_finished;
-    let finished = peer_finished.it;
-    let MaybePeerFinished::None = finished else {
-        return MaybeSeq::None;
+    let None = session.peer_finished else {
+        return None;
     };
-    let slot = session.inbound_next;
-    let it = slot.it;
-    let MaybeSeq::Some(seq) = it else {
-        return MaybeSeq::None;
+    let Some(seq) = session.inbound_next else {
+        return None;
     };
     if seq.0 == ALL_ONES {
-        return MaybeSeq::None;
+        return None;
     }
-    MaybeSeq::Some(seq)
+    Some(seq)
 }
 
 /// An announced number that is the expected one.
@@ -96,19 +88,13 @@ pub fn same(session: Session, binding: Binding, next: SeqNum) -> bool
     if next.0 == 0 {
         return false;
     }
-    let replay = session.replay;
-    let batch = replay.it;
-    let MaybeReplay::None = batch else {
+    let None = session.replay else {
         return false;
     };
-    let peer_finished = session.peer_finished;
-    let finished = peer_finished.it;
-    let MaybePeerFinished::None = finished else {
+    let None = session.peer_finished else {
         return false;
     };
-    let slot = session.inbound_next;
-    let it = slot.it;
-    let MaybeSeq::Some(expected) = it else {
+    let Some(expected) = session.inbound_next else {
         return false;
     };
     if next.0 != expected.0 {
@@ -131,9 +117,7 @@ pub fn sent(session: Session, binding: Binding) -> bool
     if !local_flow.is_sequenced() {
         return false;
     }
-    let peer_finished = session.peer_finished;
-    let finished = peer_finished.it;
-    let MaybePeerFinished::None = finished else {
+    let None = session.peer_finished else {
         return false;
     };
     if session.outbound_next.0 >= ALL_ONES - 1 {
@@ -149,7 +133,7 @@ pub fn idle(session: Session, binding: Binding, now: Instant) -> bool
     if !binding.is_established() {
         return false;
     }
-    let MaybeInstant::Some(due) = session.next_deadline(binding) else {
+    let Some(due) = session.next_deadline(binding) else {
         return true;
     };
     if now.0 >= due.0 {
@@ -159,162 +143,146 @@ pub fn idle(session: Session, binding: Binding, now: Instant) -> bool
 }
 
 /// The header of a batch of the request in flight.
-pub fn header(session: Session, binding: Binding, m: Retransmission) -> MaybeOutstanding
+pub fn header(session: Session, binding: Binding, m: Retransmission) -> Option<Outstanding>
     ensures { Header result m (view session) binding }
 {
     if binding.is_closing() {
-        return MaybeOutstanding::None;
+        return None;
     }
     let remote_flow = session.remote_flow;
     if !remote_flow.is_recoverable() {
-        return MaybeOutstanding::None;
+        return None;
     }
     let id = m.session_id;
     if !id.same(session.id) {
-        return MaybeOutstanding::None;
+        return None;
     }
-    let slot = session.outstanding;
-    let it = slot.it;
-    let MaybeOutstanding::Some(outstanding) = it else {
-        return MaybeOutstanding::None;
+    let Some(outstanding) = session.outstanding else {
+        return None;
     };
     if m.request_timestamp.0 != outstanding.timestamp.0 {
-        return MaybeOutstanding::None;
+        return None;
     }
     if m.count < 1 {
-        return MaybeOutstanding::None;
+        return None;
     }
     if outstanding.count < outstanding.delivered {
-        return MaybeOutstanding::None;
+        return None;
     }
     if outstanding.count - outstanding.delivered < m.count {
-        return MaybeOutstanding::None;
+        return None;
     }
     if m.next_seq_no.0 < outstanding.from.0 {
-        return MaybeOutstanding::None;
+        return None;
     }
     if m.next_seq_no.0 - outstanding.from.0 != wide(outstanding.delivered) {
-        return MaybeOutstanding::None;
+        return None;
     }
-    MaybeOutstanding::Some(outstanding)
+    Some(outstanding)
 }
 
 /// A first gap: what is missing.
-pub fn lost(session: Session, binding: Binding, next: SeqNum, stamp: Nanotime) -> MaybeGap
+pub fn lost(session: Session, binding: Binding, next: SeqNum, stamp: Nanotime) -> Option<Gap>
     ensures { Lost result next stamp (view session) binding }
 {
     if !binding.is_established() {
-        return MaybeGap::None;
+        return None;
     }
     if session.start_pending {
-        return MaybeGap::None;
+        return None;
     }
     let remote_flow = session.remote_flow;
     if !remote_flow.is_recoverable() {
-        return MaybeGap::None;
+        return None;
     }
-    let replay = session.replay;
-    let batch = replay.it;
-    let MaybeReplay::None = batch else {
-        return MaybeGap::None;
+    let None = session.replay else {
+        return None;
     };
-    let peer_finished = session.peer_finished;
-    let finished = peer_finished.it;
-    let MaybePeerFinished::None = finished else {
-        return MaybeGap::None;
+    let None = session.peer_finished else {
+        return None;
     };
-    let request = session.outstanding;
-    let outstanding = request.it;
-    let MaybeOutstanding::None = outstanding else {
-        return MaybeGap::None;
+    let None = session.outstanding else {
+        return None;
     };
     if stamp.0 == ALL_ONES {
-        return MaybeGap::None;
+        return None;
     }
     if session.config.max_pending_gaps < 1 {
-        return MaybeGap::None;
+        return None;
     }
     let gaps = session.gaps;
     if !gaps.is_empty() {
-        return MaybeGap::None;
+        return None;
     }
-    let slot = session.inbound_next;
-    let it = slot.it;
-    let MaybeSeq::Some(expected) = it else {
-        return MaybeGap::None;
+    let Some(expected) = session.inbound_next else {
+        return None;
     };
     if next.0 <= expected.0 {
-        return MaybeGap::None;
+        return None;
     }
     if session.config.max_gap_len < next.0 - expected.0 {
-        return MaybeGap::None;
+        return None;
     }
-    MaybeGap::Some(Gap {
+    Some(Gap {
         from: expected,
         end: next,
     })
 }
 
 /// The last message of the batch that ends all recovery.
-pub fn recovered(session: Session, binding: Binding) -> MaybeSeq
+pub fn recovered(session: Session, binding: Binding) -> Option<SeqNum>
     ensures { Recovered result (view session) binding }
 {
     if !binding.is_established() {
-        return MaybeSeq::None;
+        return None;
     }
-    let peer_finished = session.peer_finished;
-    let finished = peer_finished.it;
-    let MaybePeerFinished::None = finished else {
-        return MaybeSeq::None;
+    let None = session.peer_finished else {
+        return None;
     };
-    let replay = session.replay;
-    let batch = replay.it;
-    let MaybeReplay::Some(r) = batch else {
-        return MaybeSeq::None;
+    let Some(r) = session.replay else {
+        return None;
     };
     if r.remaining > 1 {
-        return MaybeSeq::None;
+        return None;
     }
     if r.next.0 == ALL_ONES {
-        return MaybeSeq::None;
+        return None;
     }
-    let request = session.outstanding;
-    let outstanding = request.it;
-    let MaybeOutstanding::Some(o) = outstanding else {
-        return MaybeSeq::None;
+    let Some(o) = session.outstanding else {
+        return None;
     };
     if o.delivered == 4294967295 {
-        return MaybeSeq::None;
+        return None;
     }
     if o.count < 1 {
-        return MaybeSeq::None;
+        return None;
     }
     if o.delivered + 1 < o.count {
-        return MaybeSeq::None;
+        return None;
     }
     let gaps = session.gaps;
     if !gaps.sound() {
-        return MaybeSeq::None;
+        return None;
     }
     let runs = gaps.overflow_received;
     if runs.count != 0 {
-        return MaybeSeq::None;
+        return None;
     }
     let missing = gaps.missing;
     if missing.count != 1 {
-        return MaybeSeq::None;
+        return None;
     }
-    let MaybeGap::Some(g) = missing.front() else {
-        return MaybeSeq::None;
+    let Some(g) = missing.front() else {
+        return None;
     };
     if g.end.0 < g.from.0 {
-        return MaybeSeq::None;
+        return None;
     }
     if wide(o.count) < g.end.0 - g.from.0 {
-        return MaybeSeq::None;
+        return None;
     }
     let seq = r.next;
-    MaybeSeq::Some(seq)
+    Some(seq)
 }
 
 /// A request of the peer that can be served.
@@ -332,9 +300,7 @@ pub fn asked(session: Session, binding: Binding, m: RetransmitRequest) -> bool
     if !id.same(session.id) {
         return false;
     }
-    let slot = session.provider;
-    let it = slot.it;
-    let MaybeProvider::None = it else {
+    let None = session.provider else {
         return false;
     };
     if m.count == 0 {
@@ -357,28 +323,26 @@ pub fn asked(session: Session, binding: Binding, m: RetransmitRequest) -> bool
 }
 
 /// The request that a batch of this count answers.
-pub fn batch(session: Session, binding: Binding, count: u32) -> MaybeProvider
+pub fn batch(session: Session, binding: Binding, count: u32) -> Option<Provider>
     ensures { Batch result count (view session) binding }
 {
     if !binding.is_established() {
-        return MaybeProvider::None;
+        return None;
     }
-    let slot = session.provider;
-    let it = slot.it;
-    let MaybeProvider::Some(v) = it else {
-        return MaybeProvider::None;
+    let Some(v) = session.provider else {
+        return None;
     };
     if count == 0 {
-        return MaybeProvider::None;
+        return None;
     }
     if v.count < v.sent {
-        return MaybeProvider::None;
+        return None;
     }
     if v.count - v.sent < count {
-        return MaybeProvider::None;
+        return None;
     }
     if ALL_ONES - v.from.0 < wide(v.sent) {
-        return MaybeProvider::None;
+        return None;
     }
-    MaybeProvider::Some(v)
+    Some(v)
 }

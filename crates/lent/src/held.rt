@@ -6,7 +6,7 @@ use calls::Called;
 use queue::Outputs;
 use session::Session;
 use types::binding::Link;
-use types::ids::{Instant, MaybeSeq, Nanotime, RetransmitRejectCode, TerminationCode};
+use types::ids::{Instant, SeqNum, Nanotime, RetransmitRejectCode, TerminationCode};
 use types::messages::PeerMessage;
 use types::reasons::Reason;
 
@@ -18,7 +18,7 @@ pub fn bind(
     stamp: Nanotime,
     local_keepalive: u64,
     remote_keepalive: u64,
-    next: MaybeSeq,
+    next: Option<SeqNum>,
 ) -> Called
     ensures { Answered (bind_call now stamp local_keepalive remote_keepalive next) result session link queue }
 {

@@ -15,7 +15,7 @@ use queue::Outputs;
 use session::Session;
 use types::answers::Answer;
 use types::binding::Link;
-use types::ids::{Instant, MaybeSeq, Nanotime, RetransmitRejectCode, TerminationCode};
+use types::ids::{Instant, SeqNum, Nanotime, RetransmitRejectCode, TerminationCode};
 use types::messages::{PeerMessage, SessionMessage};
 use types::output::{Event, Output};
 use types::reasons::Reason;
@@ -109,7 +109,7 @@ pub fn bind(
     stamp: Nanotime,
     local_keepalive: u64,
     remote_keepalive: u64,
-    next: MaybeSeq,
+    next: Option<SeqNum>,
 ) -> Handed
     ensures { Answered (bind_call now stamp local_keepalive remote_keepalive next) (called result q.new) session link q.old }
 {

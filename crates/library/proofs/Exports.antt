@@ -8,10 +8,9 @@ use native.Mathlib.Omega.{arith}
 use native.Mathlib.Numerals.{add-one}
 use lib.ListN.{length, drop, get_or}
 use lib.Seq.{drop-cons}
-use Rattle.rules.specs.Names.{SessionId, FlowType, FixpConfig, Link, Answer, MaybeBinding, Binding}
-use Rattle.rules.specs.Names.answer
+use Rattle.rules.specs.Names.{SessionId, FlowType, FixpConfig, Link, Answer, Binding}
+use Rattle.rules.specs.Names.verdict
 use Rattle.rules.specs.Names.refusal
-use Rattle.rules.specs.Names.linked
 use Rattle.rules.specs.Local.{Refused, passes}
 use Rattle.rules.specs.Calls.{release_call, wrong, does, Ran, opening, opened, deadline_of}
 use Rattle.queue.specs.View.{OutsWf}

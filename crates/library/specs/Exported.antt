@@ -1,7 +1,7 @@
 -- What the exported functions give: a number outside its list is refused, 1 in a record and then 5 in a request; else the call.
-use Rattle.std.specs.Prelude.{◌≡◌, Bool, true, false, ◌&&◌, if◌then◌else◌}
+use Rattle.std.specs.Prelude.{◌≡◌, Bool, true, false, ◌&&◌, if◌then◌else◌, Ok}
 use Rattle.rules.specs.Names.{Refusal}
-use Rattle.rules.specs.Names.answer
+use Rattle.rules.specs.Names.verdict
 use Rattle.rules.specs.Names.refusal
 use Rattle.rules.specs.Calls.{World, opening, opened, transport_closed, deadline_of}
 use Rattle.queue.specs.View.{queue_of, QueueIs}
@@ -72,7 +72,7 @@ deadline_reply r =
 pub record ClosedOut (r : Record) (d : Done) : Type 0 where
   pub queue : Outputs
   pub closed : QueueIs queue (transport_closed (queue_of (queue_in r.queue)))
-  pub is : d ≡ record { «record» = record_out (session_in r) (link_in r) queue; reply = answer_out answer.Ok }
+  pub is : d ≡ record { «record» = record_out (session_in r) (link_in r) queue; reply = answer_out (Ok verdict.Done) }
 
 abbrev pub ClosedBy : Bool → Record → Done → Type 0
 ClosedBy false r d = d ≡ refused_out r refusal.BadRecord

@@ -1,16 +1,8 @@
 -- What each part of a plain record stands for (..In), and the plain part of each (..Out).
-use Rattle.std.specs.Prelude.{ℕ, true, false, eqb, if◌then◌else◌}
+use Rattle.std.specs.Prelude.{ℕ, true, false, eqb, if◌then◌else◌, Option, Some, None}
 use Rattle.types.specs.Flows.{termination_number, policy_number}
-use Rattle.rules.specs.Names.{SessionId, MaybeSeq, MaybeInstant, MaybeDuration, FixpConfig, Reason, Gap, MaybeOutstanding, MaybeReplay, MaybeProvider, MaybePeerFinished, BindState, Binding, MaybeBinding}
-use Rattle.rules.specs.Names.seq
-use Rattle.rules.specs.Names.instant
-use Rattle.rules.specs.Names.duration
-use Rattle.rules.specs.Names.outstanding
-use Rattle.rules.specs.Names.replay
-use Rattle.rules.specs.Names.provider
-use Rattle.rules.specs.Names.finished
+use Rattle.rules.specs.Names.{SessionId, SeqNum, Instant, FixpConfig, Reason, Gap, Outstanding, Replay, Provider, PeerFinished, BindState, Binding}
 use Rattle.rules.specs.Names.state
-use Rattle.rules.specs.Names.linked
 use Rattle.library.specs.declared.mirror.Number.{Number}
 use Rattle.library.specs.declared.mirror.Id.{Id}
 use Rattle.library.specs.declared.mirror.Text.{Text}
@@ -30,26 +22,26 @@ no_number = record { some = false; it = 0 }
 abbrev pub a_number : ℕ → Number
 a_number n = record { some = true; it = n }
 
-abbrev pub seq_in : Number → MaybeSeq
-seq_in n = if n.some then seq.Some (record { 0 = n.it }) else seq.None
+abbrev pub seq_in : Number → Option SeqNum
+seq_in n = if n.some then Some (record { 0 = n.it }) else None
 
-abbrev pub seq_out : MaybeSeq → Number
-seq_out (seq.Some n) = a_number n.0
-seq_out seq.None = no_number
+abbrev pub seq_out : Option SeqNum → Number
+seq_out (Some n) = a_number n.0
+seq_out None = no_number
 
-abbrev pub instant_in : Number → MaybeInstant
-instant_in n = if n.some then instant.Some (record { 0 = n.it }) else instant.None
+abbrev pub instant_in : Number → Option Instant
+instant_in n = if n.some then Some (record { 0 = n.it }) else None
 
-abbrev pub instant_out : MaybeInstant → Number
-instant_out (instant.Some t) = a_number t.0
-instant_out instant.None = no_number
+abbrev pub instant_out : Option Instant → Number
+instant_out (Some t) = a_number t.0
+instant_out None = no_number
 
-abbrev pub duration_in : Number → MaybeDuration
-duration_in n = if n.some then duration.Some n.it else duration.None
+abbrev pub duration_in : Number → Option ℕ
+duration_in n = if n.some then Some n.it else None
 
-abbrev pub duration_out : MaybeDuration → Number
-duration_out (duration.Some n) = a_number n
-duration_out duration.None = no_number
+abbrev pub duration_out : Option ℕ → Number
+duration_out (Some n) = a_number n
+duration_out None = no_number
 
 -- ---- field by field
 abbrev pub id_in : Id → SessionId
@@ -93,10 +85,10 @@ config_out c =
     }
 
 -- ---- parts that may be absent
-abbrev pub outstanding_in : Asked → MaybeOutstanding
+abbrev pub outstanding_in : Asked → Option Outstanding
 outstanding_in o =
     if o.some
-    then outstanding.Some
+    then Some
     (record {
       timestamp = record { 0 = o.stamp };
       from = record { 0 = o.from };
@@ -107,10 +99,10 @@ outstanding_in o =
       batch_complete = o.batch_complete;
       stall_reported = o.stall_reported;
     })
-    else outstanding.None
+    else None
 
-abbrev pub outstanding_out : MaybeOutstanding → Asked
-outstanding_out (outstanding.Some o) =
+abbrev pub outstanding_out : Option Outstanding → Asked
+outstanding_out (Some o) =
     record {
       some = true;
       interrupted = o.interrupted;
@@ -122,7 +114,7 @@ outstanding_out (outstanding.Some o) =
       from = o.from.0;
       last_progress = o.last_progress.0;
     }
-outstanding_out outstanding.None =
+outstanding_out None =
     record {
       some = false;
       interrupted = false;
@@ -135,29 +127,29 @@ outstanding_out outstanding.None =
       last_progress = 0;
     }
 
-abbrev pub replay_in : Batch → MaybeReplay
-replay_in b = if b.some then replay.Some (record { next = record { 0 = b.next }; remaining = b.remaining }) else replay.None
+abbrev pub replay_in : Batch → Option Replay
+replay_in b = if b.some then Some (record { next = record { 0 = b.next }; remaining = b.remaining }) else None
 
-abbrev pub replay_out : MaybeReplay → Batch
-replay_out (replay.Some r) = record { some = true; remaining = r.remaining; next = r.next.0 }
-replay_out replay.None = record { some = false; remaining = 0; next = 0 }
+abbrev pub replay_out : Option Replay → Batch
+replay_out (Some r) = record { some = true; remaining = r.remaining; next = r.next.0 }
+replay_out None = record { some = false; remaining = 0; next = 0 }
 
-abbrev pub provider_in : Served → MaybeProvider
+abbrev pub provider_in : Served → Option Provider
 provider_in s =
     if s.some
-    then provider.Some (record { request_timestamp = record { 0 = s.stamp }; from = record { 0 = s.from }; count = s.count; sent = s.sent })
-    else provider.None
+    then Some (record { request_timestamp = record { 0 = s.stamp }; from = record { 0 = s.from }; count = s.count; sent = s.sent })
+    else None
 
-abbrev pub provider_out : MaybeProvider → Served
-provider_out (provider.Some p) = record { some = true; count = p.count; sent = p.sent; stamp = p.request_timestamp.0; from = p.from.0 }
-provider_out provider.None = record { some = false; count = 0; sent = 0; stamp = 0; from = 0 }
+abbrev pub provider_out : Option Provider → Served
+provider_out (Some p) = record { some = true; count = p.count; sent = p.sent; stamp = p.request_timestamp.0; from = p.from.0 }
+provider_out None = record { some = false; count = 0; sent = 0; stamp = 0; from = 0 }
 
-abbrev pub finished_in : Finished → MaybePeerFinished
-finished_in f = if f.some then finished.Some (record { receiving_sent = f.receiving_sent; end = seq_in f.end }) else finished.None
+abbrev pub finished_in : Finished → Option PeerFinished
+finished_in f = if f.some then Some (record { receiving_sent = f.receiving_sent; end = seq_in f.end }) else None
 
-abbrev pub finished_out : MaybePeerFinished → Finished
-finished_out (finished.Some f) = record { some = true; receiving_sent = f.receiving_sent; end = seq_out f.end }
-finished_out finished.None = record { some = false; receiving_sent = false; end = no_number }
+abbrev pub finished_out : Option PeerFinished → Finished
+finished_out (Some f) = record { some = true; receiving_sent = f.receiving_sent; end = seq_out f.end }
+finished_out None = record { some = false; receiving_sent = false; end = no_number }
 
 -- ---- the binding: 1 Established, 2 Terminating, 3 Closing
 unfoldable pub state_in : Bond → BindState
@@ -169,7 +161,7 @@ state_in b =
 abbrev pub bound_in : Bond → Binding
 bound_in b =
     record {
-      state = record { it = state_in b };
+      state = state_in b;
       local_keepalive = b.local_keepalive;
       remote_keepalive = b.remote_keepalive;
       last_keepalive = record { 0 = b.last_keepalive };
@@ -177,8 +169,8 @@ bound_in b =
       in_sequence = b.in_sequence;
     }
 
-abbrev pub binding_in : Bond → MaybeBinding
-binding_in b = if b.some then linked.Some (bound_in b) else linked.None
+abbrev pub binding_in : Bond → Option Binding
+binding_in b = if b.some then Some (bound_in b) else None
 
 abbrev pub bond_of : Binding → ℕ → ℕ → ℕ → Number → Bond
 bond_of b phase code sent-at deadline =
@@ -215,6 +207,6 @@ bound_out b state.Established = bond_of b 1 1 0 no_number
 bound_out b (state.Terminating t k) = bond_of b 2 (termination_number k) t.0 no_number
 bound_out b (state.Closing d) = bond_of b 3 1 0 (instant_out d)
 
-abbrev pub binding_out : MaybeBinding → Bond
-binding_out (linked.Some b) = bound_out b b.state.it
-binding_out linked.None = no_bond
+abbrev pub binding_out : Option Binding → Bond
+binding_out (Some b) = bound_out b b.state
+binding_out None = no_bond

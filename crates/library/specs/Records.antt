@@ -2,8 +2,7 @@
 use Rattle.std.specs.Prelude.{Bool, true, false, map}
 use Rattle.rules.specs.Names.{Instant, Nanotime, Link}
 use Rattle.rules.specs.Calls.{Call}
-use Rattle.rings.specs.declared.gap_ring.GapRing.{GapRing}
-use Rattle.rings.specs.declared.run_ring.RunRing.{RunRing}
+use Rattle.rings.specs.declared.ring.Ring.{Ring}
 use Rattle.rings.specs.declared.gaps.Gaps.{Gaps}
 use Rattle.session.specs.declared.Session.{Session}
 use Rattle.queue.specs.declared.Outputs.{Outputs}
@@ -24,16 +23,16 @@ use Rattle.library.specs.Outputs.{queue_out}
 use Rattle.library.specs.Answers.{answer_out}
 
 -- ---- the rings, place by place
-abbrev pub missing_in : Missing → GapRing
+abbrev pub missing_in : Missing → Ring max_gaps
 missing_in m = record { slots = map gap_in m.slots; head = m.head; count = m.count }
 
-abbrev pub missing_out : GapRing → Missing
+abbrev pub missing_out : Ring max_gaps → Missing
 missing_out r = record { slots = map gap_out r.slots; head = r.head; count = r.count }
 
-abbrev pub overflow_in : Overflow → RunRing
+abbrev pub overflow_in : Overflow → Ring max_runs
 overflow_in m = record { slots = map gap_in m.slots; head = m.head; count = m.count }
 
-abbrev pub overflow_out : RunRing → Overflow
+abbrev pub overflow_out : Ring max_runs → Overflow
 overflow_out r = record { slots = map gap_out r.slots; head = r.head; count = r.count }
 
 abbrev pub gaps_in : Missing → Overflow → Gaps
@@ -48,14 +47,14 @@ session_in r =
       remote_flow = flow_in r.remote_flow;
       config = config_in r.config;
       outbound_next = record { 0 = r.outbound_next };
-      inbound_next = record { it = seq_in r.inbound_next };
+      inbound_next = seq_in r.inbound_next;
       start_pending = r.start_pending;
       gaps = gaps_in r.missing r.overflow;
-      outstanding = record { it = outstanding_in r.asked };
-      replay = record { it = replay_in r.batch };
+      outstanding = outstanding_in r.asked;
+      replay = replay_in r.batch;
       awaiting_resume = r.awaiting_resume;
-      provider = record { it = provider_in r.served };
-      peer_finished = record { it = finished_in r.finished };
+      provider = provider_in r.served;
+      peer_finished = finished_in r.finished;
       finalized = r.finalized;
     }
 
@@ -73,13 +72,13 @@ record_out s l q =
       finalized = s.finalized;
       config = config_out s.config;
       outbound_next = s.outbound_next.0;
-      inbound_next = seq_out s.inbound_next.it;
+      inbound_next = seq_out s.inbound_next;
       missing = missing_out s.gaps.missing;
       overflow = overflow_out s.gaps.overflow_received;
-      asked = outstanding_out s.outstanding.it;
-      batch = replay_out s.replay.it;
-      served = provider_out s.provider.it;
-      finished = finished_out s.peer_finished.it;
+      asked = outstanding_out s.outstanding;
+      batch = replay_out s.replay;
+      served = provider_out s.provider;
+      finished = finished_out s.peer_finished;
       bond = binding_out l.binding;
       reason = text_out l.reason;
       queue = queue_out q;

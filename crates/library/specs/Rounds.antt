@@ -1,24 +1,16 @@
 -- What is read back from the plain form of a part is that part: nothing is lost at the border.
-use Rattle.std.specs.Prelude.{◌≡◌, refl, List, [], ◌∷◌, map}
+use Rattle.std.specs.Prelude.{◌≡◌, refl, List, [], ◌∷◌, map, Option, Some, None}
 use Rattle.std.proofs.Common.{ap}
 use Rattle.types.specs.Flows.{flow_number, policy_number, termination_number, rejection_number}
-use Rattle.rules.specs.Names.{FlowType, TerminationCode, RetransmitRejectCode, RetransmitStallPolicy, TerminatedBy, MessageName, SessionId, MaybeSeq, MaybeInstant, MaybeDuration, FixpConfig, Reason, Gap, MaybeOutstanding, MaybeReplay, MaybeProvider, MaybePeerFinished, BindState, Binding}
+use Rattle.rules.specs.Names.{FlowType, TerminationCode, RetransmitRejectCode, RetransmitStallPolicy, TerminatedBy, MessageName, SessionId, SeqNum, Instant, FixpConfig, Reason, Gap, Outstanding, Replay, Provider, PeerFinished, BindState, Binding}
 use Rattle.rules.specs.Names.flow
 use Rattle.rules.specs.Names.code
 use Rattle.rules.specs.Names.rejection
 use Rattle.rules.specs.Names.policy
 use Rattle.rules.specs.Names.by
 use Rattle.rules.specs.Names.name
-use Rattle.rules.specs.Names.seq
-use Rattle.rules.specs.Names.instant
-use Rattle.rules.specs.Names.duration
-use Rattle.rules.specs.Names.outstanding
-use Rattle.rules.specs.Names.replay
-use Rattle.rules.specs.Names.provider
-use Rattle.rules.specs.Names.finished
 use Rattle.rules.specs.Names.state
-use Rattle.rings.specs.declared.gap_ring.GapRing.{GapRing}
-use Rattle.rings.specs.declared.run_ring.RunRing.{RunRing}
+use Rattle.rings.specs.declared.ring.Ring.{Ring}
 use Rattle.library.specs.Numbers.{flow_in, policy_in, termination_in, rejection_in, by_in, by_number, name_in, name_number}
 use Rattle.library.specs.Parts.{seq_in, seq_out, instant_in, instant_out, duration_in, duration_out, id_in, id_out, text_in, text_out, gap_in, gap_out, config_in, config_out, outstanding_in, outstanding_out, replay_in, replay_out, provider_in, provider_out, finished_in, finished_out, state_in, bound_out}
 use Rattle.library.specs.Records.{missing_in, missing_out, overflow_in, overflow_out}
@@ -74,17 +66,17 @@ name_back name.Topic = refl
 name_back name.MessageTemplate = refl
 
 -- ---- numbers that may be absent
-pub seq-back : (n : MaybeSeq) → seq_in (seq_out n) ≡ n
-seq-back (seq.Some n) = refl
-seq-back seq.None = refl
+pub seq-back : (n : Option SeqNum) → seq_in (seq_out n) ≡ n
+seq-back (Some n) = refl
+seq-back None = refl
 
-pub instant-back : (t : MaybeInstant) → instant_in (instant_out t) ≡ t
-instant-back (instant.Some t) = refl
-instant-back instant.None = refl
+pub instant-back : (t : Option Instant) → instant_in (instant_out t) ≡ t
+instant-back (Some t) = refl
+instant-back None = refl
 
-pub duration-back : (d : MaybeDuration) → duration_in (duration_out d) ≡ d
-duration-back (duration.Some n) = refl
-duration-back duration.None = refl
+pub duration-back : (d : Option ℕ) → duration_in (duration_out d) ≡ d
+duration-back (Some n) = refl
+duration-back None = refl
 
 -- ---- parts
 pub id-back : (i : SessionId) → id_in (id_out i) ≡ i
@@ -105,21 +97,21 @@ config-back g =
       retransmit_stall_policy = policy-back g.retransmit_stall_policy i;
     }
 
-pub outstanding-back : (o : MaybeOutstanding) → outstanding_in (outstanding_out o) ≡ o
-outstanding-back (outstanding.Some o) = refl
-outstanding-back outstanding.None = refl
+pub outstanding-back : (o : Option Outstanding) → outstanding_in (outstanding_out o) ≡ o
+outstanding-back (Some o) = refl
+outstanding-back None = refl
 
-pub replay-back : (r : MaybeReplay) → replay_in (replay_out r) ≡ r
-replay-back (replay.Some r) = refl
-replay-back replay.None = refl
+pub replay-back : (r : Option Replay) → replay_in (replay_out r) ≡ r
+replay-back (Some r) = refl
+replay-back None = refl
 
-pub provider-back : (p : MaybeProvider) → provider_in (provider_out p) ≡ p
-provider-back (provider.Some p) = refl
-provider-back provider.None = refl
+pub provider-back : (p : Option Provider) → provider_in (provider_out p) ≡ p
+provider-back (Some p) = refl
+provider-back None = refl
 
-pub finished-back : (f : MaybePeerFinished) → finished_in (finished_out f) ≡ f
-finished-back (finished.Some f) = λ i. finished.Some (record { receiving_sent = f.receiving_sent; end = seq-back f.end i })
-finished-back finished.None = refl
+pub finished-back : (f : Option PeerFinished) → finished_in (finished_out f) ≡ f
+finished-back (Some f) = λ i. Some (record { receiving_sent = f.receiving_sent; end = seq-back f.end i })
+finished-back None = refl
 
 -- ---- the binding
 pub state-back : (b : Binding) (s : BindState) → state_in (bound_out b s) ≡ s
@@ -133,8 +125,8 @@ pub gaps-back : (l : List Gap) → map gap_in (map gap_out l) ≡ l
 gaps-back [] = refl
 gaps-back (g ∷ l) = ap (λ (r : List Gap). g ∷ r) (gaps-back l)
 
-pub missing-back : (r : GapRing) → missing_in (missing_out r) ≡ r
+pub missing-back : (r : Ring max_gaps) → missing_in (missing_out r) ≡ r
 missing-back r = λ i. record { slots = gaps-back r.slots i; head = r.head; count = r.count }
 
-pub overflow-back : (r : RunRing) → overflow_in (overflow_out r) ≡ r
+pub overflow-back : (r : Ring max_runs) → overflow_in (overflow_out r) ≡ r
 overflow-back r = λ i. record { slots = gaps-back r.slots i; head = r.head; count = r.count }

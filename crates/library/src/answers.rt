@@ -1,6 +1,6 @@
 //! An answer as numbers, by 01's own (`rules/specs/Answers`).
 ghost use Rattle.std.specs.Prelude.{◌≡◌};
-ghost use Rattle.rules.specs.Names.answer;
+ghost use Rattle.rules.specs.Names.verdict;
 ghost use Rattle.library.specs.Parts.{no_number};
 ghost use Rattle.library.specs.Answers.{numbered_reply, carrying_reply, refusal_out, answer_out};
 
@@ -91,7 +91,7 @@ pub fn refusal_out(refusal: Refusal) -> Reply
 }
 
 fn delivery_out(delivery: Delivery) -> Reply
-    ensures { result ≡ answer_out (answer.Delivered delivery) }
+    ensures { result ≡ answer_out (Ok (verdict.Delivered delivery)) }
 {
     match delivery {
         Delivery::Accept { seq, retransmitted } => {
@@ -108,14 +108,14 @@ pub fn answer_out(answer: Answer) -> Reply
     ensures { result ≡ answer_out answer }
 {
     match answer {
-        Answer::Ok => plain(1),
-        Answer::Delivered(delivery) => delivery_out(delivery),
-        Answer::Sent(seq) => numbered(5, seq_out(seq)),
-        Answer::Batch(batch) => {
+        Ok(Verdict::Done) => plain(1),
+        Ok(Verdict::Delivered(delivery)) => delivery_out(delivery),
+        Ok(Verdict::Sent(seq)) => numbered(5, seq_out(seq)),
+        Ok(Verdict::Batch(batch)) => {
             let mut r = numbered(6, number(batch.from.0));
             r.first = wide32(batch.count);
             r
         }
-        Answer::Refused(refusal) => refusal_out(refusal),
+        Err(refusal) => refusal_out(refusal),
     }
 }

@@ -12,20 +12,16 @@ use crate::codes::{flow_in, flow_out, listed};
 use crate::lists::{gaps_in, missing_out, overflow_out};
 use crate::mirror::{Bond, Done, Opening, Record, Reply, Request, Settings};
 use crate::outputs::{all_said, queue_in, queue_out};
-use crate::parts::{
-    binding_in, binding_out, config_in, config_out, finished_in, finished_out, id_in, id_out,
-    instant_out, no_number, outstanding_in, outstanding_out, provider_in, provider_out, replay_in,
-    replay_out, seq_in, seq_out, text_in, text_out,
-};
+use crate::parts::{binding_in, binding_out, config_in, config_out, finished_in, finished_out, id_in, id_out, instant_out, no_number, outstanding_in, outstanding_out, provider_in, provider_out, replay_in, replay_out, seq_in, seq_out, text_in, text_out};
 use crate::requests::entry_in;
 use calls::Called;
 use queue::Outputs;
 use session::Session;
 use trace::records::Entry;
 use types::answers::{Answer, Refusal};
-use types::binding::{Link, MaybeBinding};
+use types::binding::{Link, Binding};
 use types::ids::{Instant, Nanotime, SeqNum};
-use types::parts::{OutstandingSlot, PeerFinishedSlot, ProviderSlot, ReplaySlot, SeqSlot};
+
 
 pub mod answers;
 pub mod codes;
@@ -54,22 +50,14 @@ fn session_in(plain: Record) -> Session
         remote_flow: flow_in(plain.remote_flow),
         config: config_in(config),
         outbound_next: SeqNum(plain.outbound_next),
-        inbound_next: SeqSlot { it: seq_in(next) },
+        inbound_next: seq_in(next),
         start_pending: plain.start_pending,
         gaps,
-        outstanding: OutstandingSlot {
-            it: outstanding_in(asked),
-        },
-        replay: ReplaySlot {
-            it: replay_in(batch),
-        },
+        outstanding: outstanding_in(asked),
+        replay: replay_in(batch),
         awaiting_resume: plain.awaiting_resume,
-        provider: ProviderSlot {
-            it: provider_in(served),
-        },
-        peer_finished: PeerFinishedSlot {
-            it: finished_in(finished),
-        },
+        provider: provider_in(served),
+        peer_finished: finished_in(finished),
         finalized: plain.finalized,
     }
 }
@@ -91,19 +79,14 @@ fn record_out(s: Session, link: Link, q: Outputs) -> Record
     let local_flow = s.local_flow;
     let remote_flow = s.remote_flow;
     let config = s.config;
-    let next = s.inbound_next;
-    let next_it = next.it;
+    let next_it = s.inbound_next;
     let gaps = s.gaps;
     let missing = gaps.missing;
     let runs = gaps.overflow_received;
-    let asked = s.outstanding;
-    let asked_it = asked.it;
-    let batch = s.replay;
-    let batch_it = batch.it;
-    let served = s.provider;
-    let served_it = served.it;
-    let finished = s.peer_finished;
-    let finished_it = finished.it;
+    let asked_it = s.outstanding;
+    let batch_it = s.replay;
+    let served_it = s.provider;
+    let finished_it = s.peer_finished;
     let binding = link.binding;
     let reason = link.reason;
     Record {
@@ -288,11 +271,11 @@ fn is_good(session: Session, link: Link, queue: Outputs) -> bool
     let released = calls::release(session, link, queue);
     let answer = released.answer;
     match answer {
-        Answer::Ok => true,
-        Answer::Delivered(delivery) => true,
-        Answer::Sent(seq) => true,
-        Answer::Batch(batch) => true,
-        Answer::Refused(refusal) => false,
+        Ok(Verdict::Done) => true,
+        Ok(Verdict::Delivered(delivery)) => true,
+        Ok(Verdict::Sent(seq)) => true,
+        Ok(Verdict::Batch(batch)) => true,
+        Err(refusal) => false,
     }
 }
 
@@ -310,8 +293,7 @@ pub fn fixp_next_deadline(record: Record) -> Reply
     if !is_good(session, link, outputs) {
         return refusal_out(Refusal::BadRecord);
     }
-    let it = link.binding;
-    let MaybeBinding::Some(binding) = it else {
+    let Some(binding) = link.binding else {
         return numbered(1, no_number());
     };
     numbered(1, instant_out(session.next_deadline(binding)))
@@ -336,6 +318,6 @@ pub fn fixp_transport_closed(record: Record) -> Done
         session,
         link,
         queue: closed,
-        answer: Answer::Ok,
+        answer: Ok(Verdict::Done),
     })
 }

@@ -4,9 +4,9 @@ ghost use Rattle.library.specs.Parts.{gap_in, gap_out};
 ghost use Rattle.library.specs.Records.{missing_in, missing_out, overflow_in, overflow_out, gaps_in};
 
 use crate::mirror::{Missing, Overflow, Range};
-use rings::gap_ring::{GapRing, MAX_GAPS};
+use rings::gaps::{MAX_GAPS, MAX_RUNS};
+use rings::ring::Ring;
 use rings::gaps::Gaps;
-use rings::run_ring::{MAX_RUNS, RunRing};
 use types::ids::SeqNum;
 use types::parts::Gap;
 
@@ -28,10 +28,10 @@ fn gap_out(gap: Gap) -> Range
     }
 }
 
-fn missing_in(m: Missing) -> GapRing
+fn missing_in(m: Missing) -> Ring<MAX_GAPS>
     ensures { result ≡ missing_in m }
 {
-    let mut ring = GapRing::new();
+    let mut ring = Ring::new();
     let mut i: usize = 0;
     while i < MAX_GAPS {
         let r = m.slots[i];
@@ -44,7 +44,7 @@ fn missing_in(m: Missing) -> GapRing
     ring
 }
 
-pub fn missing_out(ring: GapRing) -> Missing
+pub fn missing_out(ring: Ring<MAX_GAPS>) -> Missing
     ensures { result ≡ missing_out ring }
 {
     let none = Range { from: 0, end: 0 };
@@ -65,10 +65,10 @@ pub fn missing_out(ring: GapRing) -> Missing
     m
 }
 
-fn overflow_in(m: Overflow) -> RunRing
+fn overflow_in(m: Overflow) -> Ring<MAX_RUNS>
     ensures { result ≡ overflow_in m }
 {
-    let mut ring = RunRing::new();
+    let mut ring = Ring::new();
     let mut i: usize = 0;
     while i < MAX_RUNS {
         let r = m.slots[i];
@@ -81,7 +81,7 @@ fn overflow_in(m: Overflow) -> RunRing
     ring
 }
 
-pub fn overflow_out(ring: RunRing) -> Overflow
+pub fn overflow_out(ring: Ring<MAX_RUNS>) -> Overflow
     ensures { result ≡ overflow_out ring }
 {
     let none = Range { from: 0, end: 0 };

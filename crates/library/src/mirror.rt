@@ -1,7 +1,6 @@
 //! The records as plain numbers, for callers in C or Rust: no enum crosses the border, a number of 01 or of `codes` stands for it.
 use queue::MAX_OUTPUTS;
-use rings::gap_ring::MAX_GAPS;
-use rings::run_ring::MAX_RUNS;
+use rings::gaps::{MAX_GAPS, MAX_RUNS};
 use types::reasons::MAX_REASON_LEN;
 
 /// A number that may be absent.

@@ -2,18 +2,12 @@
 ghost use Rattle.std.specs.Prelude.{◌≡◌};
 ghost use Rattle.library.specs.Outputs.{bare_out, coded_out, counted_out, message_out, event_out, said_out, output_out, queue_out, said_in, is_said, all_said, output_in, queue_in};
 
-use crate::codes::{
-    by_in, by_out, is_name, listed, name_in, name_out, rejection_in, rejection_out, termination_in,
-    termination_out,
-};
+use crate::codes::{by_in, by_out, is_name, listed, name_in, name_out, rejection_in, rejection_out, termination_in, termination_out};
 use crate::mirror::{Id, Out, Queue};
 use crate::parts::{id_in, id_out, no_number, seq_in, seq_out, text_in, text_out};
 use queue::{MAX_OUTPUTS, Outputs};
-use types::ids::{MaybeSeq, Nanotime, SeqNum};
-use types::messages::{
-    FinishedReceiving, MessageName, NotApplied, Retransmission, RetransmitReject,
-    RetransmitRequest, Sequence, SessionMessage, Terminate,
-};
+use types::ids::{Nanotime, SeqNum};
+use types::messages::{FinishedReceiving, MessageName, NotApplied, Retransmission, RetransmitReject, RetransmitRequest, Sequence, SessionMessage, Terminate};
 use types::output::{Event, Output, Said};
 use types::reasons::Reason;
 

@@ -6,13 +6,10 @@ ghost use Rattle.library.specs.Parts.{state_in, binding_in, bond_of, no_bond, bi
 
 use crate::codes::{flow_in, flow_out, policy_in, policy_out, termination_in, termination_out};
 use crate::mirror::{Asked, Batch, Bond, Finished, Id, Number, Served, Settings, Text};
-use types::binding::{BindState, Binding, MaybeBinding, StateSlot};
-use types::config::{FixpConfig, MaybeDuration};
-use types::ids::{Instant, MaybeInstant, MaybeSeq, Nanotime, SeqNum, SessionId};
-use types::parts::{
-    MaybeOutstanding, MaybePeerFinished, MaybeProvider, MaybeReplay, Outstanding, PeerFinished,
-    Provider, Replay,
-};
+use types::binding::{BindState, Binding};
+use types::config::{FixpConfig};
+use types::ids::{Instant, Nanotime, SeqNum, SessionId};
+use types::parts::{Outstanding, PeerFinished, Provider, Replay};
 use types::reasons::Reason;
 
 /// No number.
@@ -29,57 +26,57 @@ pub fn number(it: u64) -> Number
     Number { some: true, it }
 }
 
-pub fn seq_in(n: Number) -> MaybeSeq
+pub fn seq_in(n: Number) -> Option<SeqNum>
     ensures { result ≡ seq_in n }
 {
     if n.some {
-        return MaybeSeq::Some(SeqNum(n.it));
+        return Some(SeqNum(n.it));
     }
-    MaybeSeq::None
+    None
 }
 
-pub fn seq_out(seq: MaybeSeq) -> Number
+pub fn seq_out(seq: Option<SeqNum>) -> Number
     ensures { result ≡ seq_out seq }
 {
     match seq {
-        MaybeSeq::Some(n) => number(n.0),
-        MaybeSeq::None => no_number(),
+        Some(n) => number(n.0),
+        None => no_number(),
     }
 }
 
-pub fn instant_in(n: Number) -> MaybeInstant
+pub fn instant_in(n: Number) -> Option<Instant>
     ensures { result ≡ instant_in n }
 {
     if n.some {
-        return MaybeInstant::Some(Instant(n.it));
+        return Some(Instant(n.it));
     }
-    MaybeInstant::None
+    None
 }
 
-pub fn instant_out(instant: MaybeInstant) -> Number
+pub fn instant_out(instant: Option<Instant>) -> Number
     ensures { result ≡ instant_out instant }
 {
     match instant {
-        MaybeInstant::Some(t) => number(t.0),
-        MaybeInstant::None => no_number(),
+        Some(t) => number(t.0),
+        None => no_number(),
     }
 }
 
-pub fn duration_in(n: Number) -> MaybeDuration
+pub fn duration_in(n: Number) -> Option<u64>
     ensures { result ≡ duration_in n }
 {
     if n.some {
-        return MaybeDuration::Some(n.it);
+        return Some(n.it);
     }
-    MaybeDuration::None
+    None
 }
 
-pub fn duration_out(duration: MaybeDuration) -> Number
+pub fn duration_out(duration: Option<u64>) -> Number
     ensures { result ≡ duration_out duration }
 {
     match duration {
-        MaybeDuration::Some(n) => number(n),
-        MaybeDuration::None => no_number(),
+        Some(n) => number(n),
+        None => no_number(),
     }
 }
 
@@ -147,13 +144,13 @@ pub fn config_out(c: FixpConfig) -> Settings
     }
 }
 
-pub fn outstanding_in(o: Asked) -> MaybeOutstanding
+pub fn outstanding_in(o: Asked) -> Option<Outstanding>
     ensures { result ≡ outstanding_in o }
 {
     if !o.some {
-        return MaybeOutstanding::None;
+        return None;
     }
-    MaybeOutstanding::Some(Outstanding {
+    Some(Outstanding {
         timestamp: Nanotime(o.stamp),
         from: SeqNum(o.from),
         count: o.count,
@@ -165,11 +162,11 @@ pub fn outstanding_in(o: Asked) -> MaybeOutstanding
     })
 }
 
-pub fn outstanding_out(it: MaybeOutstanding) -> Asked
+pub fn outstanding_out(it: Option<Outstanding>) -> Asked
     ensures { result ≡ outstanding_out it }
 {
     match it {
-        MaybeOutstanding::Some(o) => Asked {
+        Some(o) => Asked {
             some: true,
             interrupted: o.interrupted,
             batch_complete: o.batch_complete,
@@ -180,7 +177,7 @@ pub fn outstanding_out(it: MaybeOutstanding) -> Asked
             from: o.from.0,
             last_progress: o.last_progress.0,
         },
-        MaybeOutstanding::None => Asked {
+        None => Asked {
             some: false,
             interrupted: false,
             batch_complete: false,
@@ -194,28 +191,28 @@ pub fn outstanding_out(it: MaybeOutstanding) -> Asked
     }
 }
 
-pub fn replay_in(b: Batch) -> MaybeReplay
+pub fn replay_in(b: Batch) -> Option<Replay>
     ensures { result ≡ replay_in b }
 {
     if !b.some {
-        return MaybeReplay::None;
+        return None;
     }
-    MaybeReplay::Some(Replay {
+    Some(Replay {
         next: SeqNum(b.next),
         remaining: b.remaining,
     })
 }
 
-pub fn replay_out(it: MaybeReplay) -> Batch
+pub fn replay_out(it: Option<Replay>) -> Batch
     ensures { result ≡ replay_out it }
 {
     match it {
-        MaybeReplay::Some(r) => Batch {
+        Some(r) => Batch {
             some: true,
             remaining: r.remaining,
             next: r.next.0,
         },
-        MaybeReplay::None => Batch {
+        None => Batch {
             some: false,
             remaining: 0,
             next: 0,
@@ -223,13 +220,13 @@ pub fn replay_out(it: MaybeReplay) -> Batch
     }
 }
 
-pub fn provider_in(s: Served) -> MaybeProvider
+pub fn provider_in(s: Served) -> Option<Provider>
     ensures { result ≡ provider_in s }
 {
     if !s.some {
-        return MaybeProvider::None;
+        return None;
     }
-    MaybeProvider::Some(Provider {
+    Some(Provider {
         request_timestamp: Nanotime(s.stamp),
         from: SeqNum(s.from),
         count: s.count,
@@ -237,18 +234,18 @@ pub fn provider_in(s: Served) -> MaybeProvider
     })
 }
 
-pub fn provider_out(it: MaybeProvider) -> Served
+pub fn provider_out(it: Option<Provider>) -> Served
     ensures { result ≡ provider_out it }
 {
     match it {
-        MaybeProvider::Some(p) => Served {
+        Some(p) => Served {
             some: true,
             count: p.count,
             sent: p.sent,
             stamp: p.request_timestamp.0,
             from: p.from.0,
         },
-        MaybeProvider::None => Served {
+        None => Served {
             some: false,
             count: 0,
             sent: 0,
@@ -258,24 +255,24 @@ pub fn provider_out(it: MaybeProvider) -> Served
     }
 }
 
-pub fn finished_in(f: Finished) -> MaybePeerFinished
+pub fn finished_in(f: Finished) -> Option<PeerFinished>
     ensures { result ≡ finished_in f }
 {
     if !f.some {
-        return MaybePeerFinished::None;
+        return None;
     }
     let end = f.end;
-    MaybePeerFinished::Some(PeerFinished {
+    Some(PeerFinished {
         receiving_sent: f.receiving_sent,
         end: seq_in(end),
     })
 }
 
-pub fn finished_out(it: MaybePeerFinished) -> Finished
+pub fn finished_out(it: Option<PeerFinished>) -> Finished
     ensures { result ≡ finished_out it }
 {
     match it {
-        MaybePeerFinished::Some(f) => {
+        Some(f) => {
             let end = f.end;
             Finished {
                 some: true,
@@ -283,7 +280,7 @@ pub fn finished_out(it: MaybePeerFinished) -> Finished
                 end: seq_out(end),
             }
         }
-        MaybePeerFinished::None => Finished {
+        None => Finished {
             some: false,
             receiving_sent: false,
             end: no_number(),
@@ -311,15 +308,15 @@ fn state_in(b: Bond) -> BindState
     }
 }
 
-pub fn binding_in(b: Bond) -> MaybeBinding
+pub fn binding_in(b: Bond) -> Option<Binding>
     ensures { result ≡ binding_in b }
 {
     if !b.some {
-        return MaybeBinding::None;
+        return None;
     }
     let state = state_in(b);
-    MaybeBinding::Some(Binding {
-        state: StateSlot { it: state },
+    Some(Binding {
+        state: state,
         local_keepalive: b.local_keepalive,
         remote_keepalive: b.remote_keepalive,
         last_keepalive: Instant(b.last_keepalive),
@@ -364,14 +361,13 @@ fn no_bond() -> Bond
     }
 }
 
-pub fn binding_out(it: MaybeBinding) -> Bond
+pub fn binding_out(it: Option<Binding>) -> Bond
     ensures { result ≡ binding_out it }
 {
-    let MaybeBinding::Some(b) = it else {
+    let Some(b) = it else {
         return no_bond();
     };
-    let slot = b.state;
-    let state = slot.it;
+    let state = b.state;
     match state {
         BindState::Established => bond(b, 1, 1, 0, no_number()),
         BindState::Terminating { sent_at, code } => bond(

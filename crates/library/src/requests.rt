@@ -7,10 +7,7 @@ use crate::mirror::Request;
 use crate::parts::{id_in, seq_in};
 use trace::records::Entry;
 use types::ids::{Nanotime, SeqNum};
-use types::messages::{
-    Applied, Context, FinishedSending, NotApplied, PeerMessage, Retransmission, RetransmitReject,
-    RetransmitRequest, Sequence, Terminate,
-};
+use types::messages::{Applied, Context, FinishedSending, NotApplied, PeerMessage, Retransmission, RetransmitReject, RetransmitRequest, Sequence, Terminate};
 
 /// A peer's message by the kinds 32 to 44.
 fn message_in(r: Request) -> PeerMessage

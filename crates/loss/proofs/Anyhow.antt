@@ -1,9 +1,9 @@
 -- Claims 2 and 3 hold whatever peer and link do: they speak of the numbers that were taken, and any one call is one that some truthful
 -- peer could have made, if the messages before it were given as they were taken.
-use Rattle.std.specs.Prelude.{◌≡◌, refl, List, [], ◌∷◌, ℕ, ◌+◌, ◌<◌, ◌≤◌, ◌^◌}
+use Rattle.std.specs.Prelude.{◌≡◌, refl, List, [], ◌∷◌, ℕ, ◌+◌, ◌<◌, ◌≤◌, ◌^◌, Ok, Err}
 use Rattle.std.proofs.Common.{sym, ap, subst, arith}
 use Rattle.rules.specs.Names.{SessionId, FlowType, FixpConfig, Answer}
-use Rattle.rules.specs.Names.answer
+use Rattle.rules.specs.Names.verdict
 use Rattle.rules.specs.Names.delivery
 use Rattle.rules.specs.State.{Queue}
 use Rattle.rules.specs.Local.{Refused, passes, refuses}
@@ -33,12 +33,12 @@ taken-times n (t ∷ l) = ap (λ (k : ℕ). hit n t.took (t.took + 1) + k) (take
 
 noted-taken : (a : Answer) (g g' : ℕ) (l : List Taking) → AsGiven (noted a g (as_taken l)) → noted a g (as_taken l) ≡ as_taken (noted a g' l)
 unfolding as_taken
-noted-taken answer.Ok g g' l e = refl
-noted-taken (answer.Delivered delivery.Discard) g g' l e = refl
-noted-taken (answer.Delivered (delivery.Accept n again)) g g' l e = ap (λ (k : ℕ). record { gave = k; took = number n } ∷ as_taken l) (sym e.0)
-noted-taken (answer.Sent n) g g' l e = refl
-noted-taken (answer.Batch b) g g' l e = refl
-noted-taken (answer.Refused r) g g' l e = refl
+noted-taken (Ok verdict.Done) g g' l e = refl
+noted-taken (Ok (verdict.Delivered delivery.Discard)) g g' l e = refl
+noted-taken (Ok (verdict.Delivered (delivery.Accept n again))) g g' l e = ap (λ (k : ℕ). record { gave = k; took = number n } ∷ as_taken l) (sym e.0)
+noted-taken (Ok (verdict.Sent n)) g g' l e = refl
+noted-taken (Ok (verdict.Batch b)) g g' l e = refl
+noted-taken (Err r) g g' l e = refl
 
 call-fine : (c : Call) (h : History) → Fine h → Fine (step h (calls c))
 unfolding step ran Allowed

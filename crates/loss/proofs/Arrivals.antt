@@ -1,17 +1,14 @@
 -- An application message, live or of a batch, keeps the invariant; what is accepted is noted once, as the peer gave it.
-use Rattle.std.specs.Prelude.{◌≡◌, refl, Bool, true, ◌||◌, ℕ, ◌+◌, ◌-◌, ◌<◌, ◌≤◌, ◌^◌, leb, eqb, if◌then◌else◌}
+use Rattle.std.specs.Prelude.{◌≡◌, refl, Bool, true, ◌||◌, ℕ, ◌+◌, ◌-◌, ◌<◌, ◌≤◌, ◌^◌, leb, eqb, if◌then◌else◌, Option, Some, None, Ok, Err}
 use Rattle.std.proofs.Common.{sym, ap, arith}
 use Rattle.std.proofs.Math.Path.{subst}
 use mathlib.Core.List.{List, [], ◌∷◌, ◌++◌}
 use Rattle.std.proofs.Math.Bool.{false}
 use borrow.Author.Tests.{leb-true, leb-false, eqb-true, le-leb}
 use Rattle.types.specs.Base.{all_ones}
-use Rattle.rules.specs.Names.{SeqNum, Nanotime, Instant, MaybeSeq, FlowType, Answer, Binding, Gap, Outstanding, MaybeOutstanding, Replay, MaybeReplay}
-use Rattle.rules.specs.Names.seq
+use Rattle.rules.specs.Names.{SeqNum, Nanotime, Instant, FlowType, Answer, Binding, Gap, Outstanding, Replay}
 use Rattle.rules.specs.Names.flow
-use Rattle.rules.specs.Names.outstanding
-use Rattle.rules.specs.Names.replay
-use Rattle.rules.specs.Names.answer
+use Rattle.rules.specs.Names.verdict
 use Rattle.rules.specs.Names.delivery
 use Rattle.rules.specs.Lists.{drop_below}
 use Rattle.rules.specs.State.{Sess, Did, stays, answering, with_gaps, with_inbound, with_start, with_outstanding, with_replay}
@@ -31,11 +28,11 @@ use Rattle.loss.proofs.Asks.{stays-keeps, violation-keeps, complete-keeps}
 use Rattle.loss.proofs.Numbers.{first_by, good-first}
 use Rattle.loss.specs.Arrivals.{Runs}
 
-module _ (start : Bool) (f gave : ℕ) (log : List Taking) (rej : List Gap) (Q : MaybeSeq → MaybeReplay → Bool → Type 0) (a : AsGiven log) where
+module _ (start : Bool) (f gave : ℕ) (log : List Taking) (rej : List Gap) (Q : Option SeqNum → Option Replay → Bool → Type 0) (a : AsGiven log) where
   abbrev R : Did → Type 0
   R d = Runs start f gave log rej Q d
 
-  abbrev F : MaybeSeq → ℕ
+  abbrev F : Option SeqNum → ℕ
   F = first_by log rej f Q start
 
   -- a call that accepts nothing
@@ -45,19 +42,19 @@ module _ (start : Bool) (f gave : ℕ) (log : List Taking) (rej : List Gap) (Q :
       plainly : (x : Answer) → is_accept x ≡ false →
           (Good d.session (first_after false start (number d.session.inbound_next) f) log (reported d.outs ++ rej) → Good d.session (first_after (is_accept x) start (number d.session.inbound_next) f) (noted x gave log) (reported d.outs ++ rej))
           × AsGiven (noted x gave log)
-      plainly answer.Ok e = (λ i. i, a)
-      plainly (answer.Delivered delivery.Discard) e = (λ i. i, a)
-      plainly (answer.Delivered (delivery.Accept n again)) e = no e
-      plainly (answer.Sent n) e = (λ i. i, a)
-      plainly (answer.Batch b) e = (λ i. i, a)
-      plainly (answer.Refused r) e = (λ i. i, a)
+      plainly (Ok verdict.Done) e = (λ i. i, a)
+      plainly (Ok (verdict.Delivered delivery.Discard)) e = (λ i. i, a)
+      plainly (Ok (verdict.Delivered (delivery.Accept n again))) e = no e
+      plainly (Ok (verdict.Sent n)) e = (λ i. i, a)
+      plainly (Ok (verdict.Batch b)) e = (λ i. i, a)
+      plainly (Err r) e = (λ i. i, a)
 
   -- a message that is discarded; one that is accepted
   pub discarded : (d : Did) → Keeps log rej F Q d → R (answering discard d)
   unfolding answering
   discarded d k = record { good = subst (λ (l : List Gap). Good d.session (F d.session.inbound_next) log (l ++ rej)) (sym k.silent) k.good; given = a; holds = k.holds }
 
-  accepted : (n : SeqNum) (again : Bool) (d : Did) → n.0 ≡ gave → Keeps (record { gave = gave; took = n.0 } ∷ log) rej (λ x. f) Q d → R (answering (answer.Delivered (delivery.Accept (seq.Some n) again)) d)
+  accepted : (n : SeqNum) (again : Bool) (d : Did) → n.0 ≡ gave → Keeps (record { gave = gave; took = n.0 } ∷ log) rej (λ x. f) Q d → R (answering (Ok (verdict.Delivered (delivery.Accept (Some n) again))) d)
   unfolding answering
   accepted n again d e k =
       record {
@@ -67,15 +64,15 @@ module _ (start : Bool) (f gave : ℕ) (log : List Taking) (rej : List Gap) (Q :
       }
 
   -- ---- live
-  module _ (q : (y : SeqNum) → y.0 ≡ gave + 1 → Q (seq.Some y) replay.None false) where
-    numbered_as-runs : (x : MaybeSeq) (s : Sess) (b : Binding) → let S = with_replay replay.None (with_inbound x (with_start start s)) in Good S f log rej → number x ≡ gave → is_peer_finished s.peer_finished ≡ false → R (numbered_as x (with_start false S) b)
+  module _ (q : (y : SeqNum) → y.0 ≡ gave + 1 → Q (Some y) None false) where
+    numbered_as-runs : (x : Option SeqNum) (s : Sess) (b : Binding) → let S = with_replay None (with_inbound x (with_start start s)) in Good S f log rej → number x ≡ gave → is_peer_finished s.peer_finished ≡ false → R (numbered_as x (with_start false S) b)
     unfolding answering
-    numbered_as-runs seq.None s b i e u = absurd i.numbered
-    numbered_as-runs (seq.Some n) s b i e u =
+    numbered_as-runs None s b i e u = absurd i.numbered
+    numbered_as-runs (Some n) s b i e u =
         by-test R (eqb n.0 all_ones)
         (λ t. let j = good-first log rej f Q S i in discarded (violation 12 (with_start false S) b) (violation-keeps log rej F Q 12 (with_start false S) b
         (record { bounded = j.bounded; recoverable = j.recoverable; numbered = j.numbered; numbers = j.numbers; counts = j.counts; replays = j.replays; steady = j.steady; starts = tt })))
-        (λ t. accepted n false (stays (with_inbound (seq.Some (next n)) (with_start false S)) b []) e (stays-keeps _ rej (λ x. f) Q (with_inbound (seq.Some (next n)) (with_start false S)) b [] (record {
+        (λ t. accepted n false (stays (with_inbound (Some (next n)) (with_start false S)) b []) e (stays-keeps _ rej (λ x. f) Q (with_inbound (Some (next n)) (with_start false S)) b [] (record {
           bounded = i.bounded;
           recoverable = i.recoverable;
           numbered = tt;
@@ -84,26 +81,26 @@ module _ (start : Bool) (f gave : ℕ) (log : List Taking) (rej : List Gap) (Q :
           replays = tt;
           steady = tt;
           starts = tt;
-        }) (subst (λ (z : Bool). Q (seq.Some (next n)) replay.None z) (sym u) (q (next n) (ap (λ (k : ℕ). k + 1) e))) refl))
+        }) (subst (λ (z : Bool). Q (Some (next n)) None z) (sym u) (q (next n) (ap (λ (k : ℕ). k + 1) e))) refl))
       where
         S : Sess
-        S = with_replay replay.None (with_inbound (seq.Some n) (with_start start s))
+        S = with_replay None (with_inbound (Some n) (with_start start s))
 
-    live_on-runs : (p : FlowType) (s : Sess) (b : Binding) → let S = with_replay replay.None (with_start start s) in IsRecoverable p → Good S f log rej → number s.inbound_next ≡ gave → is_peer_finished s.peer_finished ≡ false → R (live_on p S b)
+    live_on-runs : (p : FlowType) (s : Sess) (b : Binding) → let S = with_replay None (with_start start s) in IsRecoverable p → Good S f log rej → number s.inbound_next ≡ gave → is_peer_finished s.peer_finished ≡ false → R (live_on p S b)
     unfolding number_live
     live_on-runs flow.Recoverable s b r i e u =
         by-test R s.awaiting_resume
-        (λ t. let S : Sess = with_replay replay.None (with_start start s) in discarded (violation 10 S b) (violation-keeps log rej F Q 10 S b (good-first log rej f Q S i)))
+        (λ t. let S : Sess = with_replay None (with_start start s) in discarded (violation 10 S b) (violation-keeps log rej F Q 10 S b (good-first log rej f Q S i)))
         (λ t. numbered_as-runs s.inbound_next s b i e u)
     live_on-runs flow.Idempotent s b r i e u = absurd r
     live_on-runs flow.Unsequenced s b r i e u = absurd r
     live_on-runs flow.None s b r i e u = absurd r
 
     -- a live message: the expected number is the one that the peer gave it, unless the peer has finished
-    pub live-runs : (s : Sess) (b : Binding) → let S = with_replay replay.None (with_start start s) in Good S f log rej → (is_peer_finished s.peer_finished ≡ false → number s.inbound_next ≡ gave) → R (on_live S b)
+    pub live-runs : (s : Sess) (b : Binding) → let S = with_replay None (with_start start s) in Good S f log rej → (is_peer_finished s.peer_finished ≡ false → number s.inbound_next ≡ gave) → R (on_live S b)
     unfolding on_live
     live-runs s b i e =
-        let S : Sess = with_replay replay.None (with_start start s) in
+        let S : Sess = with_replay None (with_start start s) in
         by-test R (is_peer_finished s.peer_finished)
         (λ t. discarded (violation 8 S b) (violation-keeps log rej F Q 8 S b (good-first log rej f Q S i)))
         (λ t. live_on-runs s.remote_flow s b i.recoverable i (e t) t)
@@ -111,9 +108,9 @@ module _ (start : Bool) (f gave : ℕ) (log : List Taking) (rej : List Gap) (Q :
 -- ---- of a batch
 left-fits : (r : Replay) (f c d : ℕ) → r.next.0 ≡ f + d → 0 < r.remaining → d + r.remaining ≤ c → ReplayFits (replay_after r) (asking f c (d + 1))
 unfolding replay_after
-left-fits r f c d p q h = by-test (λ (x : MaybeReplay). ReplayFits x (asking f c (d + 1))) (leb r.remaining 1) (λ t. tt) (λ t. let u = leb-false r.remaining 1 t in (omega arith, omega arith, omega arith))
+left-fits r f c d p q h = by-test (λ (x : Option Replay). ReplayFits x (asking f c (d + 1))) (leb r.remaining 1) (λ t. tt) (λ t. let u = leb-false r.remaining 1 t in (omega arith, omega arith, omega arith))
 
-steady-left : (now : Instant) (r : Replay) (o : Outstanding) → o.interrupted || o.batch_complete ≡ false → Steady (replay_after r) (outstanding.Some (progressed now (leb r.remaining 1) o))
+steady-left : (now : Instant) (r : Replay) (o : Outstanding) → o.interrupted || o.batch_complete ≡ false → Steady (replay_after r) (Some (progressed now (leb r.remaining 1) o))
 unfolding replay_after
 steady-left now r o e = go (leb r.remaining 1)
   where
@@ -121,29 +118,29 @@ steady-left now r o e = go (leb r.remaining 1)
     whole true b e = no e
     whole false b e = refl
 
-    go : (t : Bool) → Steady (if t then replay.None else replay.Some (record { next = next r.next; remaining = r.remaining - 1 })) (outstanding.Some (progressed now t o))
+    go : (t : Bool) → Steady (if t then None else Some (record { next = next r.next; remaining = r.remaining - 1 })) (Some (progressed now t o))
     go true = tt
     go false = whole o.interrupted o.batch_complete e
 
-last-left : (r : Replay) → r.remaining ≤ 1 → replay_after r ≡ replay.None
+last-left : (r : Replay) → r.remaining ≤ 1 → replay_after r ≡ None
 unfolding replay_after
 last-left r h = rw (le-leb r.remaining 1 h) refl
 
 -- the request counts one more, and is complete or not
-module _ (log' : List Taking) (rej : List Gap) (first : MaybeSeq → ℕ) (Q : MaybeSeq → MaybeReplay → Bool → Type 0) (now : Instant) (stamp : Nanotime) where
+module _ (log' : List Taking) (rej : List Gap) (first : Option SeqNum → ℕ) (Q : Option SeqNum → Option Replay → Bool → Type 0) (now : Instant) (stamp : Nanotime) where
   counted-keeps : (r : Replay) (o : Outstanding) (rs : List Gap) (s : Sess) (b : Binding) → Good s (first s.inbound_next) log' rej → asked_of s.outstanding ≡ asking o.from.0 o.count (o.delivered + 1) → o.delivered + r.remaining ≤ o.count →
       s.replay ≡ replay_after r → Q s.inbound_next (replay_after r) (is_peer_finished s.peer_finished) → Keeps log' rej first Q (complete_if (leb o.count (o.delivered + 1)) now stamp s b)
   unfolding complete_if
   counted-keeps r o rs s b i e h w q =
       by-test (Keeps log' rej first Q) (leb o.count (o.delivered + 1))
       (λ t. let u = leb-true o.count (o.delivered + 1) t in
-      complete-keeps log' rej first Q now stamp s b (subst Full (sym e) u) i (subst (λ (x : MaybeReplay). Q s.inbound_next x (is_peer_finished s.peer_finished)) (last-left r (omega arith)) q))
-      (λ t. stays-keeps log' rej first Q s b [] i (subst (λ (x : MaybeReplay). Q s.inbound_next x (is_peer_finished s.peer_finished)) (sym w) q) refl)
+      complete-keeps log' rej first Q now stamp s b (subst Full (sym e) u) i (subst (λ (x : Option Replay). Q s.inbound_next x (is_peer_finished s.peer_finished)) (last-left r (omega arith)) q))
+      (λ t. stays-keeps log' rej first Q s b [] i (subst (λ (x : Option Replay). Q s.inbound_next x (is_peer_finished s.peer_finished)) (sym w) q) refl)
 
-module _ (now : Instant) (stamp : Nanotime) (start : Bool) (f gave : ℕ) (log : List Taking) (rej : List Gap) (Q : MaybeSeq → MaybeReplay → Bool → Type 0) (a : AsGiven log) where
+module _ (now : Instant) (stamp : Nanotime) (start : Bool) (f gave : ℕ) (log : List Taking) (rej : List Gap) (Q : Option SeqNum → Option Replay → Bool → Type 0) (a : AsGiven log) where
   -- the session after one more of the request: its gaps and request
-  delivered-good : (x : Bool) (r : Replay) (o : Outstanding) (h : ℕ) (s : Sess) → let S = with_replay (replay.Some r) (with_outstanding (outstanding.Some o) s) in r.next.0 ≡ gave → in_run r.next.0 s.gaps.overflow_received ≡ x → Good S h log rej →
-      Good (with_gaps (lists s.gaps.missing (drop_below r.next.0 s.gaps.overflow_received)) (with_outstanding (outstanding.Some (progressed now (leb r.remaining 1) o)) (with_replay (replay_after r) S))) h (if x then log else record { gave = gave; took = r.next.0 } ∷ log) rej
+  delivered-good : (x : Bool) (r : Replay) (o : Outstanding) (h : ℕ) (s : Sess) → let S = with_replay (Some r) (with_outstanding (Some o) s) in r.next.0 ≡ gave → in_run r.next.0 s.gaps.overflow_received ≡ x → Good S h log rej →
+      Good (with_gaps (lists s.gaps.missing (drop_below r.next.0 s.gaps.overflow_received)) (with_outstanding (Some (progressed now (leb r.remaining 1) o)) (with_replay (replay_after r) S))) h (if x then log else record { gave = gave; took = r.next.0 } ∷ log) rej
   delivered-good x r o h s g e i =
       record {
         bounded = i.bounded;
@@ -158,10 +155,10 @@ module _ (now : Instant) (stamp : Nanotime) (start : Bool) (f gave : ℕ) (log :
         starts = i.starts;
       }
 
-  pub replayed-runs : (o : MaybeOutstanding) (r : Replay) (s : Sess) (b : Binding) → let S = with_start start (with_replay (replay.Some r) (with_outstanding o s)) in Good S f log rej → r.next.0 ≡ gave → Q s.inbound_next (replay_after r) (is_peer_finished s.peer_finished) → Runs start f gave log rej Q (on_replayed now stamp r S b)
+  pub replayed-runs : (o : Option Outstanding) (r : Replay) (s : Sess) (b : Binding) → let S = with_start start (with_replay (Some r) (with_outstanding o s)) in Good S f log rej → r.next.0 ≡ gave → Q s.inbound_next (replay_after r) (is_peer_finished s.peer_finished) → Runs start f gave log rej Q (on_replayed now stamp r S b)
   unfolding on_replayed replayed_counted count_delivered received_in_overflow
-  replayed-runs outstanding.None r s b i g q = absurd i.replays
-  replayed-runs (outstanding.Some o) r s b i g q =
+  replayed-runs None r s b i g q = absurd i.replays
+  replayed-runs (Some o) r s b i g q =
       by-test (R start f gave log rej Q a) (eqb r.next.0 all_ones)
       (λ t. discarded start f gave log rej Q a (violation 7 S b) (violation-keeps log rej (F start f gave log rej Q a) Q 7 S b (good-first log rej f Q S i)))
       (λ t. by-test (λ (k : Counted). R start f gave log rej Q a (replayed_counted now stamp r.next k b)) (eqb o.delivered (2 ^ 32 - 1))
@@ -169,10 +166,10 @@ module _ (now : Instant) (stamp : Nanotime) (start : Bool) (f gave : ℕ) (log :
       (λ u. go (in_run r.next.0 s.gaps.overflow_received) refl))
     where
       S : Sess
-      S = with_start start (with_replay (replay.Some r) (with_outstanding (outstanding.Some o) s))
+      S = with_start start (with_replay (Some r) (with_outstanding (Some o) s))
 
       S' : Sess
-      S' = with_gaps (lists s.gaps.missing (drop_below r.next.0 s.gaps.overflow_received)) (with_outstanding (outstanding.Some (progressed now (leb r.remaining 1) o)) (with_replay (replay_after r) S))
+      S' = with_gaps (lists s.gaps.missing (drop_below r.next.0 s.gaps.overflow_received)) (with_outstanding (Some (progressed now (leb r.remaining 1) o)) (with_replay (replay_after r) S))
 
       go : (x : Bool) → in_run r.next.0 s.gaps.overflow_received ≡ x → R start f gave log rej Q a (answering (replayed_seen x r.next) (complete_if (leb o.count (o.delivered + 1)) now stamp S' b))
       go true e =

@@ -1,5 +1,5 @@
 -- Ending, asking and recovery keep the invariant: what leaves a gap was delivered, or is reported as rejected.
-use Rattle.std.specs.Prelude.{◌≡◌, Bool, true, false, ◌&&◌, ◌||◌, ℕ, ◌+◌, ◌-◌, ◌<◌, ◌≤◌, eqb}
+use Rattle.std.specs.Prelude.{◌≡◌, Bool, true, false, ◌&&◌, ◌||◌, ℕ, ◌+◌, ◌-◌, ◌<◌, ◌≤◌, eqb, Option, Some, None, Ok}
 use Rattle.std.proofs.Math.Path.{refl, subst}
 use Rattle.std.proofs.Common.{sym}
 use mathlib.Core.List.{List, [], ◌∷◌, ◌++◌}
@@ -10,14 +10,11 @@ use borrow.Author.Tests.{leb-true, leb-false, eqb-true, not-true, not-false}
 use Rattle.types.specs.Base.{all_ones, same_id}
 use Rattle.types.specs.Flows.{is_recoverable}
 use Rattle.types.specs.States.{is_established, leave_sequence}
-use Rattle.rules.specs.Names.{SeqNum, Nanotime, Instant, MaybeSeq, TerminationCode, Reason, Retransmission, RetransmitReject, Output, Answer, Bound, Binding, Gap, Outstanding, MaybeOutstanding, MaybePeerFinished, MaybeReplay}
+use Rattle.rules.specs.Names.{SeqNum, Nanotime, Instant, TerminationCode, Reason, Retransmission, RetransmitReject, Output, Answer, Bound, Binding, Gap, Outstanding, PeerFinished, Replay}
 use Rattle.rules.specs.Names.code
 use Rattle.rules.specs.Names.event as ev
 use Rattle.rules.specs.Names.bound
-use Rattle.rules.specs.Names.outstanding
-use Rattle.rules.specs.Names.finished
-use Rattle.rules.specs.Names.replay
-use Rattle.rules.specs.Names.answer
+use Rattle.rules.specs.Names.verdict
 use Rattle.rules.specs.Lists.{is_nil, front_of}
 use Rattle.rules.specs.State.{Lists, Sess, Did, did, stays, ends, saying, with_gaps, with_outstanding, with_replay, with_awaiting, with_peer_finished}
 use Rattle.rules.specs.Outputs.{event, event_with, event_quoting}
@@ -51,20 +48,20 @@ unfolding fewer
 fewer-max len max = by-test (λ (k : ℕ). k ≤ max) (leb len max) (λ t. leb-true len max t) (λ t. omega arith)
 
 -- a session with nothing asked for replays nothing
-re-asked : (r : MaybeReplay) (o : Asked) → ReplayFits r idle → ReplayFits r o
-re-asked replay.None o h = tt
-re-asked (replay.Some r) o h = absurd h
+re-asked : (r : Option Replay) (o : Asked) → ReplayFits r idle → ReplayFits r o
+re-asked None o h = tt
+re-asked (Some r) o h = absurd h
 
-steady-asked : (r : MaybeReplay) (stamp : Nanotime) (from : SeqNum) (count : ℕ) (now : Instant) → Steady r (outstanding.Some (asked stamp from count now))
-steady-asked replay.None stamp from count now = tt
-steady-asked (replay.Some r) stamp from count now = refl
+steady-asked : (r : Option Replay) (stamp : Nanotime) (from : SeqNum) (count : ℕ) (now : Instant) → Steady r (Some (asked stamp from count now))
+steady-asked None stamp from count now = tt
+steady-asked (Some r) stamp from count now = refl
 
 within_count : (f c d : ℕ) (ms : List Gap) → AtFront (asking f c d) ms → d ≤ c
 unfolding AtFront
 within_count f c d [] h = absurd h
 within_count f c d (g ∷ ms) h = h.1
 
-module _ (log : List Taking) (rej : List Gap) (first : MaybeSeq → ℕ) (Q : MaybeSeq → MaybeReplay → Bool → Type 0) where
+module _ (log : List Taking) (rej : List Gap) (first : Option SeqNum → ℕ) (Q : Option SeqNum → Option Replay → Bool → Type 0) where
   abbrev Keep : Did → Type 0
   Keep d = Keeps log rej first Q d
 
@@ -76,20 +73,20 @@ module _ (log : List Taking) (rej : List Gap) (first : MaybeSeq → ℕ) (Q : Ma
   Now s = Q s.inbound_next s.replay (is_peer_finished s.peer_finished)
 
   abbrev Still : Sess → Type 0
-  Still s = Q s.inbound_next replay.None (is_peer_finished s.peer_finished)
+  Still s = Q s.inbound_next None (is_peer_finished s.peer_finished)
 
   pub did-keeps : (s : Sess) (b : Binding) (l : List Output) (u : Bound) (a : Answer) → Well s → OnStay u (Now s) → reported l ≡ [] → is_accept a ≡ false → Keep (did s b l u a)
   did-keeps s b l u a i q e t = record { good = i; silent = e; plain = t; holds = q }
 
   pub stays-keeps : (s : Sess) (b : Binding) (l : List Output) → Well s → Now s → reported l ≡ [] → Keep (stays s b l)
-  stays-keeps s b l i q e = did-keeps s b l bound.Stay answer.Ok i q e refl
+  stays-keeps s b l i q e = did-keeps s b l bound.Stay (Ok verdict.Done) i q e refl
 
   pub ends-keeps : (s : Sess) (b : Binding) (l : List Output) → Well s → reported l ≡ [] → Keep (ends s b l)
-  ends-keeps s b l i e = did-keeps s b l bound.Unbind answer.Ok i tt e refl
+  ends-keeps s b l i e = did-keeps s b l bound.Unbind (Ok verdict.Done) i tt e refl
 
   -- ---- ending
   -- what was delivered leaves the gap
-  consumed-good : (o : Outstanding) (s : Sess) → Well (with_outstanding (outstanding.Some o) s) → Well (consumed o.delivered (with_replay replay.None (with_outstanding outstanding.None s)))
+  consumed-good : (o : Outstanding) (s : Sess) → Well (with_outstanding (Some o) s) → Well (consumed o.delivered (with_replay None (with_outstanding None s)))
   consumed-good o s i =
       record {
         bounded = i.bounded;
@@ -102,17 +99,17 @@ module _ (log : List Taking) (rej : List Gap) (first : MaybeSeq → ℕ) (Q : Ma
         starts = start-consume s.start_pending (first s.inbound_next) (number s.inbound_next) o.delivered s.gaps.missing s.gaps.overflow_received i.starts;
       }
 
-  released : (o : MaybeOutstanding) (s : Sess) → Well (with_outstanding o s) → Well (with_replay replay.None (released_at o (with_outstanding o s)))
-  released outstanding.None s i = record { bounded = i.bounded; recoverable = i.recoverable; numbered = i.numbered; numbers = i.numbers; counts = i.counts; replays = tt; steady = tt; starts = i.starts }
-  released (outstanding.Some o) s i = consumed-good o s i
+  released : (o : Option Outstanding) (s : Sess) → Well (with_outstanding o s) → Well (with_replay None (released_at o (with_outstanding o s)))
+  released None s i = record { bounded = i.bounded; recoverable = i.recoverable; numbered = i.numbered; numbers = i.numbers; counts = i.counts; replays = tt; steady = tt; starts = i.starts }
+  released (Some o) s i = consumed-good o s i
 
   pub release-good : (s : Sess) → Well s → Well (release_binding_state s)
   unfolding release_binding_state
   release-good s i = released s.outstanding s i
 
-  released-holds : (o : MaybeOutstanding) (s : Sess) → Still s → Now (with_replay replay.None (released_at o (with_outstanding o s)))
-  released-holds outstanding.None s q = q
-  released-holds (outstanding.Some o) s q = q
+  released-holds : (o : Option Outstanding) (s : Sess) → Still s → Now (with_replay None (released_at o (with_outstanding o s)))
+  released-holds None s q = q
+  released-holds (Some o) s q = q
 
   pub release-holds : (s : Sess) → Still s → Now (release_binding_state s)
   unfolding release_binding_state
@@ -136,7 +133,7 @@ module _ (log : List Taking) (rej : List Gap) (first : MaybeSeq → ℕ) (Q : Ma
 
   pub fail-keeps : (c : TerminationCode) (n : ℕ) (s : Sess) (b : Binding) → Well s → Keep (fail c n s b)
   unfolding fail
-  fail-keeps c n s b i = ends-keeps (release_binding_state s) b _ (release-good s i) (by-test (λ (l : List Output). reported l ≡ []) (is_established b.state.it) (λ t. refl) (λ t. refl))
+  fail-keeps c n s b i = ends-keeps (release_binding_state s) b _ (release-good s i) (by-test (λ (l : List Output). reported l ≡ []) (is_established b.state) (λ t. refl) (λ t. refl))
 
   pub violation-keeps : (n : ℕ) (s : Sess) (b : Binding) → Well s → Keep (violation n s b)
   unfolding violation
@@ -147,15 +144,15 @@ module _ (log : List Taking) (rej : List Gap) (first : MaybeSeq → ℕ) (Q : Ma
   unfolding Chain
   first-gap e g ms rs o f i = i.gaps.1
 
-  ask_for-keeps : (o : MaybeOutstanding) (ms : List Gap) (now : Instant) (stamp : Nanotime) (s : Sess) (b : Binding) → is_outstanding o ≡ false →
+  ask_for-keeps : (o : Option Outstanding) (ms : List Gap) (now : Instant) (stamp : Nanotime) (s : Sess) (b : Binding) → is_outstanding o ≡ false →
       let S = with_outstanding o (with_gaps (lists ms s.gaps.overflow_received) s) in Well S → Now s → Keep (ask_for (front_of ms) now stamp S b)
   unfolding ask
-  ask_for-keeps (outstanding.Some o) ms now stamp s b e i q = no e
-  ask_for-keeps outstanding.None [] now stamp s b e i q = stays-keeps (with_outstanding outstanding.None (with_gaps (lists [] s.gaps.overflow_received) s)) b [] i q refl
-  ask_for-keeps outstanding.None (g ∷ ms) now stamp s b e i q =
+  ask_for-keeps (Some o) ms now stamp s b e i q = no e
+  ask_for-keeps None [] now stamp s b e i q = stays-keeps (with_outstanding None (with_gaps (lists [] s.gaps.overflow_received) s)) b [] i q refl
+  ask_for-keeps None (g ∷ ms) now stamp s b e i q =
       by-test Keep (leb g.end.0 g.from.0) (λ t. stays-keeps S b [] i q refl)
       (λ t. by-test Keep (eqb stamp.0 all_ones) (λ u. fail-keeps code.UnspecifiedError 20 S b i)
-      (λ u. stays-keeps (with_outstanding (outstanding.Some (asked stamp g.from count now)) S) (leave_sequence b) _ (record {
+      (λ u. stays-keeps (with_outstanding (Some (asked stamp g.from count now)) S) (leave_sequence b) _ (record {
         bounded = i.bounded;
         recoverable = i.recoverable;
         numbered = i.numbered;
@@ -168,7 +165,7 @@ module _ (log : List Taking) (rej : List Gap) (first : MaybeSeq → ℕ) (Q : Ma
       }) q refl))
     where
       S : Sess
-      S = with_outstanding outstanding.None (with_gaps (lists (g ∷ ms) s.gaps.overflow_received) s)
+      S = with_outstanding None (with_gaps (lists (g ∷ ms) s.gaps.overflow_received) s)
 
       count : ℕ
       count = fewer (g.end.0 - g.from.0) s.config.max_retransmit_count
@@ -176,16 +173,16 @@ module _ (log : List Taking) (rej : List Gap) (first : MaybeSeq → ℕ) (Q : Ma
   pub request-keeps : (now : Instant) (stamp : Nanotime) (s : Sess) (b : Binding) → Well s → Now s → Keep (request_missing now stamp s b)
   unfolding request_missing
   request-keeps now stamp s b i q =
-      by-test Keep (is_established b.state.it && is_recoverable s.remote_flow && not (is_outstanding s.outstanding))
-      (λ t. ask_for-keeps s.outstanding s.gaps.missing now stamp s b (not-true _ (and_right (is_established b.state.it && is_recoverable s.remote_flow) _ t)) i q)
+      by-test Keep (is_established b.state && is_recoverable s.remote_flow && not (is_outstanding s.outstanding))
+      (λ t. ask_for-keeps s.outstanding s.gaps.missing now stamp s b (not-true _ (and_right (is_established b.state && is_recoverable s.remote_flow) _ t)) i q)
       (λ t. stays-keeps s b [] i q refl)
 
-  finish_at-keeps : (f : MaybePeerFinished) (s : Sess) (b : Binding) → let S = with_peer_finished f s in Well S → Now S → Keep (finish_at f S b)
-  finish_at-keeps finished.None s b i q = stays-keeps (with_peer_finished finished.None s) b [] i q refl
-  finish_at-keeps (finished.Some f) s b i q =
-      let S : Sess = with_peer_finished (finished.Some f) s in
-      by-test Keep (f.receiving_sent || not (is_established b.state.it) || not (is_nil s.gaps.missing) || is_outstanding s.outstanding) (λ t. stays-keeps S b [] i q refl)
-      (λ t. stays-keeps (with_peer_finished (finished.Some (record { receiving_sent = true; end = f.end })) S) (leave_sequence b) _ i q refl)
+  finish_at-keeps : (f : Option PeerFinished) (s : Sess) (b : Binding) → let S = with_peer_finished f s in Well S → Now S → Keep (finish_at f S b)
+  finish_at-keeps None s b i q = stays-keeps (with_peer_finished None s) b [] i q refl
+  finish_at-keeps (Some f) s b i q =
+      let S : Sess = with_peer_finished (Some f) s in
+      by-test Keep (f.receiving_sent || not (is_established b.state) || not (is_nil s.gaps.missing) || is_outstanding s.outstanding) (λ t. stays-keeps S b [] i q refl)
+      (λ t. stays-keeps (with_peer_finished (Some (record { receiving_sent = true; end = f.end })) S) (leave_sequence b) _ i q refl)
 
   pub maybe_finish-keeps : (s : Sess) (b : Binding) → Well s → Now s → Keep (maybe_finish_receiving s b)
   unfolding maybe_finish_receiving
@@ -198,25 +195,25 @@ module _ (log : List Taking) (rej : List Gap) (first : MaybeSeq → ℕ) (Q : Ma
       (λ t. saying-keeps log rej first Q (event ev.RecoveryComplete ∷ []) (maybe_finish_receiving s b) refl (maybe_finish-keeps s b i q))
       (λ t. request-keeps now stamp s b i q)
 
-  completed-good : (o : MaybeOutstanding) (s : Sess) → Full (asked_of o) → Well (with_outstanding o s) → Well (with_replay replay.None (completed_at o (with_outstanding o s)))
-  completed-good outstanding.None s u i = released outstanding.None s i
-  completed-good (outstanding.Some o) s u i =
+  completed-good : (o : Option Outstanding) (s : Sess) → Full (asked_of o) → Well (with_outstanding o s) → Well (with_replay None (completed_at o (with_outstanding o s)))
+  completed-good None s u i = released None s i
+  completed-good (Some o) s u i =
       let d = within_count o.from.0 o.count o.delivered s.gaps.missing i.numbers.asked in
       let e : o.delivered ≡ o.count = omega arith in
-      subst (λ (k : ℕ). Well (consumed k (with_replay replay.None (with_outstanding outstanding.None s)))) e (consumed-good o s i)
+      subst (λ (k : ℕ). Well (consumed k (with_replay None (with_outstanding None s)))) e (consumed-good o s i)
 
-  completed-holds : (o : MaybeOutstanding) (s : Sess) → Still s → Now (with_replay replay.None (completed_at o (with_outstanding o s)))
-  completed-holds outstanding.None s q = q
-  completed-holds (outstanding.Some o) s q = q
+  completed-holds : (o : Option Outstanding) (s : Sess) → Still s → Now (with_replay None (completed_at o (with_outstanding o s)))
+  completed-holds None s q = q
+  completed-holds (Some o) s q = q
 
   pub complete-keeps : (now : Instant) (stamp : Nanotime) (s : Sess) (b : Binding) → Full (asked_of s.outstanding) → Well s → Still s → Keep (complete_outstanding now stamp s b)
   unfolding complete_outstanding
-  complete-keeps now stamp s b u i q = recovered-keeps now stamp (with_replay replay.None (completed_at s.outstanding s)) b (completed-good s.outstanding s u i) (completed-holds s.outstanding s q)
+  complete-keeps now stamp s b u i q = recovered-keeps now stamp (with_replay None (completed_at s.outstanding s)) b (completed-good s.outstanding s u i) (completed-holds s.outstanding s q)
 
   -- asking again consumes what was delivered
-  pub re_request-keeps : (now : Instant) (stamp : Nanotime) (o : Outstanding) (s : Sess) (b : Binding) → let S = with_outstanding (outstanding.Some o) s in Well S → Still s → Keep (re_request now stamp o S b)
+  pub re_request-keeps : (now : Instant) (stamp : Nanotime) (o : Outstanding) (s : Sess) (b : Binding) → let S = with_outstanding (Some o) s in Well S → Still s → Keep (re_request now stamp o S b)
   unfolding re_request
-  re_request-keeps now stamp o s b i q = request-keeps now stamp (consumed o.delivered (with_replay replay.None (with_outstanding outstanding.None s))) b (consumed-good o s i) q
+  re_request-keeps now stamp o s b i q = request-keeps now stamp (consumed o.delivered (with_replay None (with_outstanding None s))) b (consumed-good o s i) q
 
   -- ---- the header of a batch
   in-range : (m : Retransmission) (o : Outstanding) → in_range m o ≡ true → (m.next_seq_no.0 ≡ o.from.0 + o.delivered) × (0 < m.count) × (o.delivered + m.count ≤ o.count)
@@ -227,30 +224,30 @@ module _ (log : List Taking) (rej : List Gap) (first : MaybeSeq → ℕ) (Q : Ma
       let b = leb-true (m.count + o.delivered) o.count (and_right (leb 1 m.count) (leb (m.count + o.delivered) o.count) l) in
       (eqb-true m.next_seq_no.0 (o.from.0 + o.delivered) (and_right (leb 1 m.count && leb (m.count + o.delivered) o.count) _ t), omega arith, omega arith)
 
-  header_at-keeps : (o : MaybeOutstanding) (now : Instant) (m : Retransmission) (s : Sess) (b : Binding) → let S = with_outstanding o s in Well S →
-      Q s.inbound_next (replay.Some (record { next = m.next_seq_no; remaining = m.count })) (is_peer_finished s.peer_finished) → Keep (header_at o now m S b)
-  header_at-keeps outstanding.None now m s b i q = violation-keeps 23 (with_outstanding outstanding.None s) b i
-  header_at-keeps (outstanding.Some o) now m s b i q =
-      let S : Sess = with_outstanding (outstanding.Some o) s in
+  header_at-keeps : (o : Option Outstanding) (now : Instant) (m : Retransmission) (s : Sess) (b : Binding) → let S = with_outstanding o s in Well S →
+      Q s.inbound_next (Some (record { next = m.next_seq_no; remaining = m.count })) (is_peer_finished s.peer_finished) → Keep (header_at o now m S b)
+  header_at-keeps None now m s b i q = violation-keeps 23 (with_outstanding None s) b i
+  header_at-keeps (Some o) now m s b i q =
+      let S : Sess = with_outstanding (Some o) s in
       by-test Keep (not (eqb m.request_timestamp.0 o.timestamp.0)) (λ t. violation-keeps 24 S b i)
       (λ t. by-test Keep (not (in_range m o)) (λ u. violation-keeps 25 S b i)
-      (λ u. stays-keeps (with_outstanding (outstanding.Some (begun now o)) (with_awaiting true (with_replay (replay.Some (record { next = m.next_seq_no; remaining = m.count })) S))) b []
+      (λ u. stays-keeps (with_outstanding (Some (begun now o)) (with_awaiting true (with_replay (Some (record { next = m.next_seq_no; remaining = m.count })) S))) b []
       (record { bounded = i.bounded; recoverable = i.recoverable; numbered = i.numbered; numbers = i.numbers; counts = i.counts; replays = in-range m o (not-false (in_range m o) u); steady = refl; starts = i.starts }) q refl))
 
   pub header-keeps : (now : Instant) (m : Retransmission) (s : Sess) (b : Binding) → Well s →
-      Q s.inbound_next (replay.Some (record { next = m.next_seq_no; remaining = m.count })) (is_peer_finished s.peer_finished) → Keep (on_retransmission now m s b)
+      Q s.inbound_next (Some (record { next = m.next_seq_no; remaining = m.count })) (is_peer_finished s.peer_finished) → Keep (on_retransmission now m s b)
   unfolding on_retransmission
   header-keeps now m s b i q =
       by-test Keep (not (is_recoverable s.remote_flow)) (λ t. violation-keeps 21 s b i)
       (λ t. by-test Keep (not (same_id m.session_id s.id)) (λ u. violation-keeps 22 s b i) (λ u. header_at-keeps s.outstanding now m s b i q))
 
 -- ---- what a step leaves, where it may report a rejection
-module _ (log : List Taking) (rej : List Gap) (first : MaybeSeq → ℕ) (Q : MaybeSeq → MaybeReplay → Bool → Type 0) where
+module _ (log : List Taking) (rej : List Gap) (first : Option SeqNum → ℕ) (Q : Option SeqNum → Option Replay → Bool → Type 0) where
   pub keeps-leaves : (d : Did) → Keeps log rej first Q d → Leaves log rej first Q d
   keeps-leaves d k = record { good = subst (λ (l : List Gap). Good d.session (first d.session.inbound_next) log (l ++ rej)) (sym k.silent) k.good; plain = k.plain; holds = k.holds }
 
-  rejected-good : (o : Outstanding) (s : Sess) → Good (with_outstanding (outstanding.Some o) s) (first s.inbound_next) log rej →
-      Good (consumed o.count (with_replay replay.None (with_outstanding outstanding.None s))) (first s.inbound_next) log (refused_range o.from o.count ∷ rej)
+  rejected-good : (o : Outstanding) (s : Sess) → Good (with_outstanding (Some o) s) (first s.inbound_next) log rej →
+      Good (consumed o.count (with_replay None (with_outstanding None s))) (first s.inbound_next) log (refused_range o.from o.count ∷ rej)
   rejected-good o s i =
       record {
         bounded = i.bounded;
@@ -276,12 +273,12 @@ module _ (log : List Taking) (rej : List Gap) (first : MaybeSeq → ℕ) (Q : Ma
   unasked-leaves : (s : Sess) (b : Binding) → Well log rej first Q s → Now log rej first Q s → Leaves log rej first Q (unasked s b)
   unasked-leaves s b i q = record { good = i; plain = refl; holds = q }
 
-  rejected_at-leaves : (o : MaybeOutstanding) (now : Instant) (stamp : Nanotime) (m : RetransmitReject) (text : Reason) (s : Sess) (b : Binding) → let S = with_outstanding o s in Well log rej first Q S → Now log rej first Q s → Still log rej first Q s → Leaves log rej first Q (rejected_at o now stamp m text S b)
-  rejected_at-leaves outstanding.None now stamp m text s b i q p = unasked-leaves (with_outstanding outstanding.None s) b i q
-  rejected_at-leaves (outstanding.Some o) now stamp m text s b i q p =
-      let S : Sess = with_outstanding (outstanding.Some o) s in
+  rejected_at-leaves : (o : Option Outstanding) (now : Instant) (stamp : Nanotime) (m : RetransmitReject) (text : Reason) (s : Sess) (b : Binding) → let S = with_outstanding o s in Well log rej first Q S → Now log rej first Q s → Still log rej first Q s → Leaves log rej first Q (rejected_at o now stamp m text S b)
+  rejected_at-leaves None now stamp m text s b i q p = unasked-leaves (with_outstanding None s) b i q
+  rejected_at-leaves (Some o) now stamp m text s b i q p =
+      let S : Sess = with_outstanding (Some o) s in
       by-test (Leaves log rej first Q) (eqb o.timestamp.0 m.request_timestamp.0 && same_id m.session_id s.id)
-      (λ t. named-leaves o m text _ (recovered-keeps log (refused_range o.from o.count ∷ rej) first Q now stamp (consumed o.count (with_replay replay.None (with_outstanding outstanding.None S))) b (rejected-good o s i) p))
+      (λ t. named-leaves o m text _ (recovered-keeps log (refused_range o.from o.count ∷ rej) first Q now stamp (consumed o.count (with_replay None (with_outstanding None S))) b (rejected-good o s i) p))
       (λ t. unasked-leaves S b i q)
 
   pub reject-leaves : (now : Instant) (stamp : Nanotime) (m : RetransmitReject) (text : Reason) (s : Sess) (b : Binding) → Well log rej first Q s → Now log rej first Q s → Still log rej first Q s → Leaves log rej first Q (on_retransmit_reject now stamp m text s b)

@@ -1,10 +1,9 @@
 -- Histories that compute: one that meets every assumption and has everything in it, and one for each assumption that breaks without it.
-use Rattle.std.specs.Prelude.{◌≡◌, refl, List, [], ◌∷◌, Bool, true, false, not, ◌||◌, ℕ, zero, suc}
+use Rattle.std.specs.Prelude.{◌≡◌, refl, List, [], ◌∷◌, Bool, true, false, not, ◌||◌, ℕ, zero, suc, Option, Some, None}
 use Rattle.std.proofs.Common.{sym, arith, eqb-true}
-use Rattle.types.specs.Base.{same_id, deadline_at}
+use Rattle.types.specs.Base.{deadline_at}
 use Rattle.types.specs.Reasons.{no_text}
-use Rattle.rules.specs.Names.{MaybeSeq}
-use Rattle.rules.specs.Names.seq
+use Rattle.rules.specs.Names.{SeqNum}
 use Rattle.rules.specs.Names.flow
 use Rattle.rules.specs.State.{queued, saying, answering, and_then}
 use Rattle.rules.specs.Gaps.{append_gap, record_gap, later_of, widen, hold_refused_gap, received_in_overflow, drop_first, consume_missing}
@@ -27,9 +26,9 @@ may-arrive : (k : ℕ) (told : Bool) → may_arrive k told ≡ true → MayArriv
 may-arrive zero told e = e
 may-arrive (suc k) told e = tt
 
-opens-true : (n : MaybeSeq) (next : ℕ) → opens_true n next ≡ true → OpensTrue n next
-opens-true seq.None next e = tt
-opens-true (seq.Some n) next e = eqb-true n.0 next e
+opens-true : (n : Option SeqNum) (next : ℕ) → opens_true n next ≡ true → OpensTrue n next
+opens-true None next e = tt
+opens-true (Some n) next e = eqb-true n.0 next e
 
 truthful-is : (kind : Kind) (p : Truth) → truthful kind p ≡ true → Truthful kind p
 truthful-is message p e = may-arrive p.batch.left p.told e
@@ -59,7 +58,7 @@ obeys-is h (x ∷ xs) e = (allowed-is h x (and_left (allowed h x) (obeys (step h
 -- ---- 01's example configuration, everything at instant 0 and stamp 7
 -- the hypotheses of the theorem can be met
 eventful-obeys : obeys (fresh self flow.Recoverable small) eventful ≡ true
-unfolding obeys allowed arrives added ran step call sound config_fits queued saying answering and_then no_text same_id deadline_at append_gap record_gap later_of widen hold_refused_gap received_in_overflow drop_first consume_missing release_binding_state fail violation fewer ask request_missing maybe_finish_receiving recovered complete_outstanding in_range on_retransmission on_retransmit_reject gap_held gap_recorded on_gap stop_replay announced on_next_seq replay_after count_delivered complete_if replayed_counted on_replayed number_live on_live on_application new_session resume on_established bind on_peer
+unfolding obeys allowed arrives added ran step call sound config_fits queued saying answering and_then no_text deadline_at append_gap record_gap later_of widen hold_refused_gap received_in_overflow drop_first consume_missing release_binding_state fail violation fewer ask request_missing maybe_finish_receiving recovered complete_outstanding in_range on_retransmission on_retransmit_reject gap_held gap_recorded on_gap stop_replay announced on_next_seq replay_after count_delivered complete_if replayed_counted on_replayed number_live on_live on_application new_session resume on_established bind on_peer
 eventful-obeys = refl
 
 -- everything is accepted, but 8: its range was rejected
@@ -68,9 +67,9 @@ pub eventful-leaves :
     (h.first ≡ 1)
     × (h.accepted ≡ right 9 ∷ right 6 ∷ right 4 ∷ right 2 ∷ right 7 ∷ right 5 ∷ right 3 ∷ right 1 ∷ [])
     × (h.rejected ≡ range 6 9 ∷ [])
-    × (h.world.session.inbound_next ≡ seq.Some (num 10))
+    × (h.world.session.inbound_next ≡ Some (num 10))
     × (h.world.session.gaps.missing ≡ [])
-unfolding run arrives added ran step call sound config_fits queued saying answering and_then no_text same_id deadline_at append_gap record_gap later_of widen hold_refused_gap received_in_overflow drop_first consume_missing release_binding_state fail violation fewer ask request_missing maybe_finish_receiving recovered complete_outstanding in_range on_retransmission on_retransmit_reject gap_held gap_recorded on_gap stop_replay announced on_next_seq replay_after count_delivered complete_if replayed_counted on_replayed number_live on_live on_application new_session resume on_established bind on_peer
+unfolding run arrives added ran step call sound config_fits queued saying answering and_then no_text deadline_at append_gap record_gap later_of widen hold_refused_gap received_in_overflow drop_first consume_missing release_binding_state fail violation fewer ask request_missing maybe_finish_receiving recovered complete_outstanding in_range on_retransmission on_retransmit_reject gap_held gap_recorded on_gap stop_replay announced on_next_seq replay_after count_delivered complete_if replayed_counted on_replayed number_live on_live on_application new_session resume on_established bind on_peer
 eventful-leaves = (refl, refl, refl, refl, refl)
 
 pub eventful-allowed : Obeys (fresh self flow.Recoverable small) eventful
@@ -82,7 +81,7 @@ eventful-claim = loss-cannot-renumber self flow.Recoverable small (omega arith) 
 
 -- ---- what each assumption is for
 pub needed : Needed
-unfolding taken call sound config_fits queued saying answering and_then no_text same_id deadline_at append_gap record_gap later_of widen hold_refused_gap received_in_overflow drop_first consume_missing release_binding_state fail violation fewer ask request_missing maybe_finish_receiving recovered complete_outstanding in_range on_retransmission on_retransmit_reject gap_held gap_recorded gap_reported send_not_applied allocate_outbound on_gap stop_replay announced on_next_seq replay_after count_delivered complete_if replayed_counted on_replayed number_live on_live on_application new_session resume on_established bind on_context on_peer
+unfolding taken call sound config_fits queued saying answering and_then no_text deadline_at append_gap record_gap later_of widen hold_refused_gap received_in_overflow drop_first consume_missing release_binding_state fail violation fewer ask request_missing maybe_finish_receiving recovered complete_outstanding in_range on_retransmission on_retransmit_reject gap_held gap_recorded gap_reported send_not_applied allocate_outbound on_gap stop_replay announced on_next_seq replay_after count_delivered complete_if replayed_counted on_replayed number_live on_live on_application new_session resume on_established bind on_context on_peer
 needed =
     record {
       told_after_loss = refl;

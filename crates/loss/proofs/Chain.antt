@@ -1,15 +1,14 @@
 -- Ranges that are not empty, ascend and never touch, and what the rules' list operations do to them.
-use Rattle.std.specs.Prelude.{◌≡◌, refl, List, [], ◌∷◌, ◌++◌, true, false, ℕ, ◌+◌, ◌<◌, ◌≤◌, ltb, leb, eqb}
+use Rattle.std.specs.Prelude.{◌≡◌, refl, List, [], ◌∷◌, ◌++◌, true, false, ℕ, ◌+◌, ◌<◌, ◌≤◌, ltb, leb, eqb, Some}
 use Rattle.std.proofs.Common.{arith, ltb-true, leb-true, ltb-false, leb-false, eqb-true}
 use Rattle.rules.specs.Names.{SeqNum, Gap}
-use Rattle.rules.specs.Names.gap
 use Rattle.rules.specs.Lists.{front_of, back_of, drop_below}
 use Rattle.rules.specs.Gaps.{gap_of, lists, starts_by, runs_with, drop_first, consume_missing}
 use Rattle.loss.specs.Count.{hit, hits, Place, below, inside, above}
 use Rattle.loss.proofs.Count.{by-test, hit-in, hit-below, hit-above, hit-join, hit-none, place}
 use Rattle.loss.specs.Chain.{Chain, front_or, last_of, last_end, reaching, in_run, Cleared, kept, gone, Eaten}
 
-pub back_is : (g : Gap) (gs : List Gap) → back_of (g ∷ gs) ≡ gap.Some (last_of g gs)
+pub back_is : (g : Gap) (gs : List Gap) → back_of (g ∷ gs) ≡ Some (last_of g gs)
 back_is g [] = refl
 back_is g (h ∷ gs) = back_is h gs
 

@@ -1,8 +1,8 @@
 -- What steps that keep the invariant of a session report, and one step after another.
-use Rattle.std.specs.Prelude.{◌≡◌, refl, List, [], ◌∷◌, ◌++◌, Bool, true, false, ◌&&◌, ℕ, if◌then◌else◌}
+use Rattle.std.specs.Prelude.{◌≡◌, refl, List, [], ◌∷◌, ◌++◌, Bool, true, false, ◌&&◌, ℕ, if◌then◌else◌, Option}
 use Rattle.std.proofs.Common.{sym, ap, ◌∙◌, append_assoc}
 use Rattle.types.specs.States.{is_stay}
-use Rattle.rules.specs.Names.{MaybeSeq, Output, Bound, Gap, MaybeReplay}
+use Rattle.rules.specs.Names.{SeqNum, Output, Bound, Gap, Replay}
 use Rattle.rules.specs.Names.bound
 use Rattle.rules.specs.State.{Sess, Did, did, saying, and_then}
 use Rattle.rules.specs.Numbering.{is_peer_finished}
@@ -26,13 +26,13 @@ pub and_right : (a b : Bool) → a && b ≡ true → b ≡ true
 and_right true b e = e
 and_right false b e = no (sym e)
 
-module _ (log : List Taking) (rej : List Gap) (first : MaybeSeq → ℕ) (Q : MaybeSeq → MaybeReplay → Bool → Type 0) where
+module _ (log : List Taking) (rej : List Gap) (first : Option SeqNum → ℕ) (Q : Option SeqNum → Option Replay → Bool → Type 0) where
   pub saying-keeps : (l : List Output) (d : Did) → reported l ≡ [] → Keeps log rej first Q d → Keeps log rej first Q (saying l d)
   unfolding saying
   saying-keeps l d e k = record { good = k.good; silent = reported-nils l d.outs e k.silent; plain = k.plain; holds = k.holds }
 
   -- one step after another
-  pub and_then-keeps : (Q' : MaybeSeq → MaybeReplay → Bool → Type 0) (d : Did) (k : Sess → _ → Did) → Keeps log rej first Q' d →
+  pub and_then-keeps : (Q' : Option SeqNum → Option Replay → Bool → Type 0) (d : Did) (k : Sess → _ → Did) → Keeps log rej first Q' d →
       (Good d.session (first d.session.inbound_next) log rej → Q' d.session.inbound_next d.session.replay (is_peer_finished d.session.peer_finished) → Keeps log rej first Q (k d.session d.binding)) →
       Keeps log rej first Q (and_then d k)
   unfolding and_then

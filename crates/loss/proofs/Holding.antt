@@ -1,6 +1,6 @@
 -- The invariant of a history, and that everything that happens keeps it: a live message finds its own number expected, and a message of
 -- a batch finds that batch replayed.
-use Rattle.std.specs.Prelude.{◌≡◌, Bool, not, ◌&&◌, length, drop, eqb, if◌then◌else◌}
+use Rattle.std.specs.Prelude.{◌≡◌, Bool, not, ◌&&◌, length, drop, eqb, if◌then◌else◌, Option, Some, None, Ok, Err}
 use Rattle.std.proofs.Math.Path.{refl, ap, subst}
 use Rattle.std.proofs.Common.{sym, ◌∙◌, arith}
 use mathlib.Core.List.{List, [], ◌∷◌, ◌++◌, append-nil}
@@ -12,15 +12,12 @@ use Rattle.types.specs.Flows.{is_idempotent}
 use Rattle.types.specs.States.{is_closing, with_received}
 use Rattle.types.specs.Messages.{name_of}
 use Rattle.types.specs.Reasons.{no_text}
-use Rattle.rules.specs.Names.{SeqNum, Nanotime, Instant, MaybeSeq, Reason, Context, Retransmission, Event, Output, PeerMessage, Answer, Bound, Binding, MaybeBinding, Gap, MaybeReplay, Replay}
-use Rattle.rules.specs.Names.seq
+use Rattle.rules.specs.Names.{SeqNum, Nanotime, Instant, Reason, Context, Retransmission, Event, Output, PeerMessage, Answer, Bound, Binding, Gap, Replay}
 use Rattle.rules.specs.Names.name
 use Rattle.rules.specs.Names.event as ev
 use Rattle.rules.specs.Names.peer
 use Rattle.rules.specs.Names.bound
-use Rattle.rules.specs.Names.linked
-use Rattle.rules.specs.Names.replay
-use Rattle.rules.specs.Names.answer
+use Rattle.rules.specs.Names.verdict
 use Rattle.rules.specs.State.{Sess, Queue, queued, Did, did, stays, with_replay}
 use Rattle.rules.specs.Outputs.{event, event_with}
 use Rattle.rules.specs.Ending.{release_binding_state, violation}
@@ -43,7 +40,7 @@ use Rattle.loss.proofs.Numbers.{first_by, good-first, next-keeps}
 use Rattle.loss.specs.Arrivals.{Runs}
 use Rattle.loss.proofs.Arrivals.{leaves-runs, discarded, live-runs, replayed-runs}
 use Rattle.loss.proofs.Steps.{served-keeps, heartbeat-keeps, terminated-keeps, send-keeps, terminate-keeps, retransmit-keeps, reject_request-keeps, end-keeps, timeout-keeps, finished-keeps, bind-keeps}
-use Rattle.loss.specs.Holding.{If, Synced, Flies, Knows, Invariant, Ok}
+use Rattle.loss.specs.Holding.{If, Synced, Flies, Knows, Invariant, Carries}
 
 -- ---- what the session knows
 if-map : {A B : Type 0} (b : Bool) → (A → B) → If b A → If b B
@@ -54,11 +51,11 @@ if-true : {A : Type 0} (b : Bool) → b ≡ true → If b A → A
 if-true true e a = a
 if-true false e a = no (sym e)
 
-sync-still : (t : ℕ) (x : MaybeSeq) (r : MaybeReplay) (z : Bool) → Synced t x r z → Synced t x replay.None z
+sync-still : (t : ℕ) (x : Option SeqNum) (r : Option Replay) (z : Bool) → Synced t x r z → Synced t x None z
 sync-still t x r z k = (tt, k.1)
 
 -- nothing arrived
-quiet : (kind : Kind) (p : Truth) (x : MaybeSeq) (r : MaybeReplay) (z : Bool) → Knows p x r z → Knows (after kind false p) x r z
+quiet : (kind : Kind) (p : Truth) (x : Option SeqNum) (r : Option Replay) (z : Bool) → Knows p x r z → Knows (after kind false p) x r z
 quiet message p x r z k = at p.batch.left
   where
     at : (n : ℕ) → Knows (sent_as n false p) x r z
@@ -71,7 +68,7 @@ quiet (opens n) p x r z k = k
 quiet ours p x r z k = k
 
 -- not open: what was told and the batch are gone
-within-knows : (o : Bool) (p : Truth) (x : MaybeSeq) (r : MaybeReplay) (z : Bool) → If o (Knows p x r z) → Knows (within o p) x r z
+within-knows : (o : Bool) (p : Truth) (x : Option SeqNum) (r : Option Replay) (z : Bool) → If o (Knows p x r z) → Knows (within o p) x r z
 within-knows true p x r z k = k
 within-knows false p x r z k = (tt, tt)
 
@@ -89,7 +86,7 @@ unfolding added
 added_none q = ap (drop (length q.outs)) (sym (append-nil q.outs)) ∙ drop_app q.outs []
 
 -- ---- a call
-ran-holds : (h : History) (kind : Kind) (arrived : Bool) (reason : Reason) (d : Did) → Ok h kind arrived d → Invariant (ran kind arrived (ran_as h.world.queue reason d) h)
+ran-holds : (h : History) (kind : Kind) (arrived : Bool) (reason : Reason) (d : Did) → Carries h kind arrived d → Invariant (ran kind arrived (ran_as h.world.queue reason d) h)
 unfolding ran
 ran-holds h kind arrived reason d r =
     record {
@@ -106,7 +103,7 @@ ran-holds h kind arrived reason d r =
     any false a = tt
 
     at : (u : Bound) → OnStay u (Knows p d.session.inbound_next d.session.replay (is_peer_finished d.session.peer_finished)) → Knows (within (is_open (link_after u d.binding reason).binding) p) d.session.inbound_next d.session.replay (is_peer_finished d.session.peer_finished)
-    at bound.Stay k = within-knows (not (is_closing d.binding.state.it)) p d.session.inbound_next d.session.replay (is_peer_finished d.session.peer_finished) (any (not (is_closing d.binding.state.it)) k)
+    at bound.Stay k = within-knows (not (is_closing d.binding.state)) p d.session.inbound_next d.session.replay (is_peer_finished d.session.peer_finished) (any (not (is_closing d.binding.state)) k)
     at bound.Unbind k = (tt, tt)
 
 -- a call that changes nothing
@@ -138,19 +135,19 @@ module _ (h : History) (i : Invariant h) where
   gave = given_as h.peer.batch.left h.peer
 
   -- what is to hold after a call of this kind
-  abbrev Q : Kind → Bool → MaybeSeq → MaybeReplay → Bool → Type 0
+  abbrev Q : Kind → Bool → Option SeqNum → Option Replay → Bool → Type 0
   Q kind arrived x r z = Knows (after kind arrived h.peer) x r z
 
-  abbrev F : MaybeSeq → ℕ
+  abbrev F : Option SeqNum → ℕ
   F = first_by h.accepted h.rejected h.first (λ x r z. Unit {0}) h.world.session.start_pending
 
   first_good : Good s (F s.inbound_next) h.accepted h.rejected
   first_good = good-first h.accepted h.rejected h.first (λ x r z. Unit {0}) s i.sound
 
-  leaves-ok : (kind : Kind) (arrived : Bool) (d : Did) → Leaves h.accepted h.rejected F (Q kind arrived) d → Ok h kind arrived d
+  leaves-ok : (kind : Kind) (arrived : Bool) (d : Did) → Leaves h.accepted h.rejected F (Q kind arrived) d → Carries h kind arrived d
   leaves-ok kind arrived d l = leaves-runs s.start_pending h.first gave h.accepted h.rejected (Q kind arrived) i.given d l
 
-  keeps-ok : (kind : Kind) (arrived : Bool) (d : Did) → Keeps h.accepted h.rejected F (Q kind arrived) d → Ok h kind arrived d
+  keeps-ok : (kind : Kind) (arrived : Bool) (d : Did) → Keeps h.accepted h.rejected F (Q kind arrived) d → Carries h kind arrived d
   keeps-ok kind arrived d k = leaves-ok kind arrived d (keeps-leaves h.accepted h.rejected F (Q kind arrived) d k)
 
   bad : (kind : Kind) (n : ℕ) (b : Binding) → Keeps h.accepted h.rejected F (Q kind true) (violation n s b)
@@ -160,10 +157,10 @@ module _ (h : History) (i : Invariant h) where
   other-now : Q other true s.inbound_next s.replay (is_peer_finished s.peer_finished)
   other-now = (i.knows.0, tt)
 
-  other-still : Q other true s.inbound_next replay.None (is_peer_finished s.peer_finished)
+  other-still : Q other true s.inbound_next None (is_peer_finished s.peer_finished)
   other-still = (if-map p.told (sync-still p.next s.inbound_next s.replay (is_peer_finished s.peer_finished)) i.knows.0, tt)
 
-  other-finished : (x : MaybeSeq) (r : MaybeReplay) → NoReplay r → Q other true x r true
+  other-finished : (x : Option SeqNum) (r : Option Replay) → NoReplay r → Q other true x r true
   other-finished x r n = (any p.told, tt)
     where
       any : (t : Bool) → If t (NoReplay r × Unit {0})
@@ -171,18 +168,18 @@ module _ (h : History) (i : Invariant h) where
       any false = tt
 
   -- a true number
-  told-now : (n : ℕ) (z : Bool) → n ≡ p.next → (y : SeqNum) → y.0 ≡ n → Q (announces n) true (seq.Some y) replay.None z
+  told-now : (n : ℕ) (z : Bool) → n ≡ p.next → (y : SeqNum) → y.0 ≡ n → Q (announces n) true (Some y) None z
   told-now n true e y u = ((tt, tt), tt)
   told-now n false e y u = ((tt, u ∙ e), tt)
 
-  sequence-ok : (now : Instant) (stamp : Nanotime) (n : SeqNum) (b : Binding) → n.0 ≡ p.next → Ok h (announces n.0) true (on_next_seq now stamp n s b)
+  sequence-ok : (now : Instant) (stamp : Nanotime) (n : SeqNum) (b : Binding) → n.0 ≡ p.next → Carries h (announces n.0) true (on_next_seq now stamp n s b)
   sequence-ok now stamp n b e =
       keeps-ok (announces n.0) true (on_next_seq now stamp n s b)
       (next-keeps h.accepted h.rejected h.first (Q (announces n.0) true) now stamp n s b (told-now n.0 (is_peer_finished s.peer_finished) e) i.sound)
 
   -- a Context announces if it is of this session and below 2^64-1
   context-ok : (now : Instant) (stamp : Nanotime) (m : Context) (b : Binding) (a e : Bool) → Truthful (if a && not e then announces m.next_seq_no.0 else other) p →
-      Ok h (if a && not e then announces m.next_seq_no.0 else other) true (if not a then violation 2 s b else (if e then stays s b [] else on_next_seq now stamp m.next_seq_no s b))
+      Carries h (if a && not e then announces m.next_seq_no.0 else other) true (if not a then violation 2 s b else (if e then stays s b [] else on_next_seq now stamp m.next_seq_no s b))
   context-ok now stamp m b false e t = keeps-ok other true (violation 2 s b) (bad other 2 b)
   context-ok now stamp m b true true t = keeps-ok other true (stays s b []) (stays-keeps h.accepted h.rejected F (Q other true) s b [] first_good other-now refl)
   context-ok now stamp m b true false t = sequence-ok now stamp m.next_seq_no b t
@@ -194,7 +191,7 @@ module _ (h : History) (i : Invariant h) where
   flies-left n (suc k) r e u = rw (lt-leb r.remaining 1 (omega arith)) (ap (λ (j : ℕ). j + 1) e, omega arith)
 
   -- while a batch is replayed no number is told
-  untold : (A : Type 0) (t : Bool) (r : Replay) (x : MaybeSeq) (z : Bool) → If t (Synced p.next x (replay.Some r) z) → If t A
+  untold : (A : Type 0) (t : Bool) (r : Replay) (x : Option SeqNum) (z : Bool) → If t (Synced p.next x (Some r) z) → If t A
   untold A true r x z k = absurd k.0
   untold A false r x z k = tt
 
@@ -203,29 +200,29 @@ module _ (h : History) (i : Invariant h) where
   expecting false e k = k
 
   -- k: what is left of the batch under way; r: what the session replays
-  arrived-ok : (now : Instant) (stamp : Nanotime) (b : Binding) (k : ℕ) (r : MaybeReplay) → MayArrive k p.told → If p.told (Synced p.next s.inbound_next r (is_peer_finished s.peer_finished)) → Flies k p.batch.next r → Good (with_replay r s) h.first h.accepted h.rejected →
+  arrived-ok : (now : Instant) (stamp : Nanotime) (b : Binding) (k : ℕ) (r : Option Replay) → MayArrive k p.told → If p.told (Synced p.next s.inbound_next r (is_peer_finished s.peer_finished)) → Flies k p.batch.next r → Good (with_replay r s) h.first h.accepted h.rejected →
       Runs s.start_pending h.first (given_as k p) h.accepted h.rejected (λ x r z. Knows (sent_as k true p) x r z) (arrived_in r now stamp (with_replay r s) b)
-  arrived-ok now stamp b zero replay.None t y f g =
+  arrived-ok now stamp b zero None t y f g =
       let w = if-true p.told t y in
       live-runs s.start_pending h.first p.next h.accepted h.rejected (λ x r z. Knows (sent_as zero true p) x r z) i.given
       (λ y u. ((tt, u), tt)) s b g (λ e. expecting (is_peer_finished s.peer_finished) e w.1)
-  arrived-ok now stamp b zero (replay.Some r) t y f g = absurd (if-true p.told t y).0
-  arrived-ok now stamp b (suc k) replay.None t y f g = absurd f
-  arrived-ok now stamp b (suc k) (replay.Some r) t y f g =
+  arrived-ok now stamp b zero (Some r) t y f g = absurd (if-true p.told t y).0
+  arrived-ok now stamp b (suc k) None t y f g = absurd f
+  arrived-ok now stamp b (suc k) (Some r) t y f g =
       replayed-runs now stamp s.start_pending h.first p.batch.next h.accepted h.rejected (λ x r z. Knows (sent_as (suc k) true p) x r z) i.given s.outstanding r s b g f.0
       (untold _ p.told r s.inbound_next (is_peer_finished s.peer_finished) y, flies-left p.batch.next k r f.0 f.1)
 
-  application-ok : (now : Instant) (stamp : Nanotime) (b : Binding) → is_closing b.state.it ≡ false → Truthful message p → Ok h message true (on_application now stamp s b)
+  application-ok : (now : Instant) (stamp : Nanotime) (b : Binding) → is_closing b.state ≡ false → Truthful message p → Carries h message true (on_application now stamp s b)
   unfolding on_application
   application-ok now stamp b e t =
-      by-test (Ok h message true) (is_closing b.state.it) (λ u. no (sym u ∙ e))
+      by-test (Carries h message true) (is_closing b.state) (λ u. no (sym u ∙ e))
       (λ u. arrived-ok now stamp (with_received now b) p.batch.left s.replay t i.knows.0 i.knows.1 i.sound)
 
   -- the event of an accepted Applied or NotApplied names no rejection
-  reporting-ok : (e : Event) (d : Did) → rejected_in e ≡ [] → Ok h message true d → Ok h message true (reporting e d)
+  reporting-ok : (e : Event) (d : Did) → rejected_in e ≡ [] → Carries h message true d → Carries h message true (reporting e d)
   unfolding reporting
   reporting-ok e d n r =
-      by-test (Ok h message true) (is_accept d.answer)
+      by-test (Carries h message true) (is_accept d.answer)
       (λ t. record {
         good = subst (λ (l : List Gap). Good d.session (first_after (is_accept d.answer) s.start_pending (number d.session.inbound_next) h.first) (noted d.answer gave h.accepted) (l ++ h.rejected)) (sym same) r.good;
         given = r.given;
@@ -236,23 +233,23 @@ module _ (h : History) (i : Invariant h) where
       same : reported (d.outs ++ (event e ∷ [])) ≡ reported d.outs
       same = reported-app d.outs (event e ∷ []) ∙ ap (λ (l : List Gap). reported d.outs ++ (l ++ [])) n ∙ append-nil (reported d.outs)
 
-  applied-ok : (now : Instant) (stamp : Nanotime) (e : Event) (b : Binding) → rejected_in e ≡ [] → is_closing b.state.it ≡ false → Truthful message p → Ok h message true (on_applied now stamp e s b)
+  applied-ok : (now : Instant) (stamp : Nanotime) (e : Event) (b : Binding) → rejected_in e ≡ [] → is_closing b.state ≡ false → Truthful message p → Carries h message true (on_applied now stamp e s b)
   unfolding on_applied
   applied-ok now stamp e b n u t = reporting-ok e (on_application now stamp s b) n (application-ok now stamp b u t)
 
-  not_applied-ok : (now : Instant) (stamp : Nanotime) (e : Event) (b : Binding) → rejected_in e ≡ [] → is_closing b.state.it ≡ false → Truthful message p → Ok h message true (on_not_applied now stamp e s b)
+  not_applied-ok : (now : Instant) (stamp : Nanotime) (e : Event) (b : Binding) → rejected_in e ≡ [] → is_closing b.state ≡ false → Truthful message p → Carries h message true (on_not_applied now stamp e s b)
   unfolding on_not_applied
   not_applied-ok now stamp e b n u t =
-      by-test (Ok h message true) (not (is_idempotent s.local_flow))
+      by-test (Carries h message true) (not (is_idempotent s.local_flow))
       (λ v. discarded s.start_pending h.first gave h.accepted h.rejected (Q message true) i.given (violation 4 s b) (bad message 4 b))
       (λ v. applied-ok now stamp e b n u t)
 
   -- ---- every message of the peer
-  flies-whole : (m : Retransmission) (k : ℕ) → k ≡ m.count → Flies k m.next_seq_no.0 (replay.Some (record { next = m.next_seq_no; remaining = m.count }))
+  flies-whole : (m : Retransmission) (k : ℕ) → k ≡ m.count → Flies k m.next_seq_no.0 (Some (record { next = m.next_seq_no; remaining = m.count }))
   flies-whole m zero e = tt
   flies-whole m (suc k) e = (refl, sym e)
 
-  message-ok : (m : PeerMessage) (now : Instant) (stamp : Nanotime) (reason text : Reason) (b : Binding) → is_closing b.state.it ≡ false → Truthful (kind_of_message s.id m) p → Ok h (kind_of_message s.id m) true (on_message m now stamp reason text s b)
+  message-ok : (m : PeerMessage) (now : Instant) (stamp : Nanotime) (reason text : Reason) (b : Binding) → is_closing b.state ≡ false → Truthful (kind_of_message s.id m) p → Carries h (kind_of_message s.id m) true (on_message m now stamp reason text s b)
   unfolding on_context
   message-ok peer.Topic now stamp reason text b u t = keeps-ok other true (violation 5 s b) (bad other 5 b)
   message-ok (peer.Sequence m) now stamp reason text b u t = sequence-ok now stamp m.next_seq_no b t
@@ -270,38 +267,38 @@ module _ (h : History) (i : Invariant h) where
   message-ok peer.MessageTemplate now stamp reason text b u t = keeps-ok other true (stays s b []) (stays-keeps h.accepted h.rejected F (Q other true) s b [] first_good other-now refl)
 
   -- a message that is ignored did not arrive
-  ignored-ok : (kind : Kind) (b : Binding) (o : Output) (a : Answer) → reported (o ∷ []) ≡ [] → is_accept a ≡ false → Ok h kind false (did s b (o ∷ []) bound.Stay a)
+  ignored-ok : (kind : Kind) (b : Binding) (o : Output) (a : Answer) → reported (o ∷ []) ≡ [] → is_accept a ≡ false → Carries h kind false (did s b (o ∷ []) bound.Stay a)
   ignored-ok kind b o a e t =
       keeps-ok kind false (did s b (o ∷ []) bound.Stay a)
       (did-keeps h.accepted h.rejected F (Q kind false) s b (o ∷ []) bound.Stay a first_good (quiet kind p s.inbound_next s.replay (is_peer_finished s.peer_finished) i.knows) e t)
 
-  peer-ok : (m : PeerMessage) (now : Instant) (stamp : Nanotime) (reason text : Reason) (b : Binding) → (not (is_closing b.state.it) ≡ true → Truthful (kind_of_message s.id m) p) →
-      Ok h (kind_of_message s.id m) (not (is_closing b.state.it)) (on_peer m now stamp reason text s b)
+  peer-ok : (m : PeerMessage) (now : Instant) (stamp : Nanotime) (reason text : Reason) (b : Binding) → (not (is_closing b.state) ≡ true → Truthful (kind_of_message s.id m) p) →
+      Carries h (kind_of_message s.id m) (not (is_closing b.state)) (on_peer m now stamp reason text s b)
   unfolding on_peer
-  peer-ok m now stamp reason text b t = go (is_closing b.state.it) refl t
+  peer-ok m now stamp reason text b t = go (is_closing b.state) refl t
     where
-      quietly : (x : Bool) → is_accept (if x then discard else answer.Ok) ≡ false
+      quietly : (x : Bool) → is_accept (if x then discard else (Ok verdict.Done)) ≡ false
       quietly true = refl
       quietly false = refl
 
-      go : (z : Bool) → is_closing b.state.it ≡ z → (not z ≡ true → Truthful (kind_of_message s.id m) p) →
-          Ok h (kind_of_message s.id m) (not z) (if z then did s b (event_with (ev.Ignored (name_of m)) 1 ∷ []) bound.Stay (if is_delivery m then discard else answer.Ok) else on_message m now stamp reason text s (with_received now b))
+      go : (z : Bool) → is_closing b.state ≡ z → (not z ≡ true → Truthful (kind_of_message s.id m) p) →
+          Carries h (kind_of_message s.id m) (not z) (if z then did s b (event_with (ev.Ignored (name_of m)) 1 ∷ []) bound.Stay (if is_delivery m then discard else (Ok verdict.Done)) else on_message m now stamp reason text s (with_received now b))
       go true u t = ignored-ok (kind_of_message s.id m) b _ _ refl (quietly (is_delivery m))
       go false u t = message-ok m now stamp reason text (with_received now b) u (t refl)
 
-  live-ok : (now : Instant) (stamp : Nanotime) (b : Binding) → (not (is_closing b.state.it) ≡ true → Truthful message p) → Ok h message (not (is_closing b.state.it)) (on_application now stamp s b)
+  live-ok : (now : Instant) (stamp : Nanotime) (b : Binding) → (not (is_closing b.state) ≡ true → Truthful message p) → Carries h message (not (is_closing b.state)) (on_application now stamp s b)
   unfolding on_application
-  live-ok now stamp b t = go (is_closing b.state.it) refl t
+  live-ok now stamp b t = go (is_closing b.state) refl t
     where
-      go : (z : Bool) → is_closing b.state.it ≡ z → (not z ≡ true → Truthful message p) → Ok h message (not z) (if z then did s b (event_with (ev.Ignored name.ApplicationMessage) 1 ∷ []) bound.Stay discard else arrived_in s.replay now stamp s (with_received now b))
+      go : (z : Bool) → is_closing b.state ≡ z → (not z ≡ true → Truthful message p) → Carries h message (not z) (if z then did s b (event_with (ev.Ignored name.ApplicationMessage) 1 ∷ []) bound.Stay discard else arrived_in s.replay now stamp s (with_received now b))
       go true u t = ignored-ok message b _ _ refl refl
       go false u t = arrived-ok now stamp (with_received now b) p.batch.left s.replay (t refl) i.knows.0 i.knows.1 i.sound
 
   -- ---- a binding opens
-  bind_ok : (now : Instant) (stamp : Nanotime) (l r : ℕ) (x : MaybeSeq) (arrived : Bool) → (arrived ≡ true → Truthful (opens x) p) → arrived ≡ true → Ok h (opens x) arrived (bind now stamp l r x s)
+  bind_ok : (now : Instant) (stamp : Nanotime) (l r : ℕ) (x : Option SeqNum) (arrived : Bool) → (arrived ≡ true → Truthful (opens x) p) → arrived ≡ true → Carries h (opens x) arrived (bind now stamp l r x s)
   bind_ok now stamp l r x false t e = no (sym e)
-  bind_ok now stamp l r seq.None true t e = keeps-ok (opens seq.None) true _ (bind-keeps h.accepted h.rejected h.first (Q (opens seq.None) true) now stamp l r seq.None s i.sound (tt, tt))
-  bind_ok now stamp l r (seq.Some n) true t e = keeps-ok (opens (seq.Some n)) true _ (bind-keeps h.accepted h.rejected h.first (Q (opens (seq.Some n)) true) now stamp l r (seq.Some n) s i.sound (told-now n.0 (is_peer_finished s.peer_finished) (t refl)))
+  bind_ok now stamp l r None true t e = keeps-ok (opens None) true _ (bind-keeps h.accepted h.rejected h.first (Q (opens None) true) now stamp l r None s i.sound (tt, tt))
+  bind_ok now stamp l r (Some n) true t e = keeps-ok (opens (Some n)) true _ (bind-keeps h.accepted h.rejected h.first (Q (opens (Some n)) true) now stamp l r (Some n) s i.sound (told-now n.0 (is_peer_finished s.peer_finished) (t refl)))
 
   -- ---- every call
   If-any : {A : Type 0} (o : Bool) → A → If o A
@@ -309,21 +306,21 @@ module _ (h : History) (i : Invariant h) where
   If-any false a = tt
 
   -- a call in a binding
-  in-link : (kind : Kind) (k : Binding → Did) (reason : Reason) → ((b : Binding) → (not (is_closing b.state.it) ≡ true → Truthful kind p) → Ok h kind (not (is_closing b.state.it)) (k b)) →
-      (m : MaybeBinding) → m ≡ h.world.link.binding → (not (ignores m) ≡ true → Truthful kind p) → Invariant (ran kind (not (ignores m)) (rules.within h.world m k reason) h)
-  in-link kind k reason f linked.None q t =
-      same-holds h kind true answer.Ok refl i
-      (subst (λ (m : MaybeBinding). If (is_open m) (Knows (after kind true p) s.inbound_next s.replay (is_peer_finished s.peer_finished))) q tt)
-  in-link kind k reason f (linked.Some b) q t = ran-holds h kind (not (is_closing b.state.it)) reason (k b) (f b t)
+  in-link : (kind : Kind) (k : Binding → Did) (reason : Reason) → ((b : Binding) → (not (is_closing b.state) ≡ true → Truthful kind p) → Carries h kind (not (is_closing b.state)) (k b)) →
+      (m : Option Binding) → m ≡ h.world.link.binding → (not (ignores m) ≡ true → Truthful kind p) → Invariant (ran kind (not (ignores m)) (rules.within h.world m k reason) h)
+  in-link kind k reason f None q t =
+      same-holds h kind true (Ok verdict.Done) refl i
+      (subst (λ (m : Option Binding). If (is_open m) (Knows (after kind true p) s.inbound_next s.replay (is_peer_finished s.peer_finished))) q tt)
+  in-link kind k reason f (Some b) q t = ran-holds h kind (not (is_closing b.state)) reason (k b) (f b t)
 
   -- a bind that is not refused finds no binding
   abbrev Passed : Refused → Type 0
   Passed passes = Unit {0}
   Passed (refuses r) = ⊥
 
-  unignored : (a c : Bool) (x y z : _) (m : MaybeBinding) → Passed (unless a x (unless (not (is_bound m)) y (unless c z passes))) → not (ignores m) ≡ true
-  unignored true c x y z linked.None w = refl
-  unignored true c x y z (linked.Some b) w = absurd w
+  unignored : (a c : Bool) (x y z : _) (m : Option Binding) → Passed (unless a x (unless (not (is_bound m)) y (unless c z passes))) → not (ignores m) ≡ true
+  unignored true c x y z None w = refl
+  unignored true c x y z (Some b) w = absurd w
   unignored false c x y z m w = absurd w
 
   release-call : (arrived : Bool) → Invariant (ran ours arrived (does release_call h.world) h)
@@ -356,7 +353,7 @@ module _ (h : History) (i : Invariant h) where
   call-holds c t = go (wrong c h.world) (λ w. w) t
     where
       go : (r : Refused) → (Passed r → Passed (wrong c h.world)) → (heard r h.world.link.binding ≡ true → Truthful (kind_of s.id c) p) → Invariant (ran (kind_of s.id c) (heard r h.world.link.binding) (ran_if r (does c h.world) h.world) h)
-      go (refuses x) e t = same-holds h (kind_of s.id c) false (answer.Refused x) refl i (If-any (is_open h.world.link.binding) (quiet (kind_of s.id c) p s.inbound_next s.replay (is_peer_finished s.peer_finished) i.knows))
+      go (refuses x) e t = same-holds h (kind_of s.id c) false (Err x) refl i (If-any (is_open h.world.link.binding) (quiet (kind_of s.id c) p s.inbound_next s.replay (is_peer_finished s.peer_finished) i.knows))
       go passes e t = passed-holds c (e tt) t
 
   queue-holds : (r : Refused) (q : Queue) → Invariant (with_queue r q h)

@@ -1,12 +1,9 @@
 -- What holds of every session reached from new by any calls at all, with a Recoverable peer that need not be truthful: a single call is
 -- always one that some truthful peer could have made.
-use Rattle.std.specs.Prelude.{◌≡◌, refl, List, [], ◌∷◌, Bool, true, false, ℕ, zero, suc, ◌+◌, ◌-◌, ◌<◌, ◌≤◌, ◌^◌, eqb}
+use Rattle.std.specs.Prelude.{◌≡◌, refl, List, [], ◌∷◌, Bool, true, false, ℕ, zero, suc, ◌+◌, ◌-◌, ◌<◌, ◌≤◌, ◌^◌, eqb, Option, Some, None}
 use Rattle.std.proofs.Common.{arith, leb-true, eqb-true}
-use Rattle.rules.specs.Names.{SessionId, Instant, FlowType, FixpConfig, Gap, Outstanding, Replay, MaybeReplay, MaybeSeq}
-use Rattle.rules.specs.Names.seq
+use Rattle.rules.specs.Names.{SessionId, Instant, FlowType, FixpConfig, Gap, Outstanding, Replay, SeqNum}
 use Rattle.rules.specs.Names.flow
-use Rattle.rules.specs.Names.outstanding
-use Rattle.rules.specs.Names.replay
 use Rattle.rules.specs.State.{Sess, Queue, with_outstanding, with_replay}
 use Rattle.rules.specs.Gaps.{lists, consume_missing}
 use Rattle.rules.specs.Numbering.{Counted, counted_at, is_peer_finished}
@@ -28,14 +25,14 @@ use Rattle.loss.proofs.Theorem.{fresh_holds, hits-holds, holds-hits, times-took,
 use Rattle.loss.specs.Reached.{Use, uses, takes, reports, read_as, used, reach, Accounted, batch_of, is_live, peer_for}
 
 -- ---- any calls
-flies-all : (n k : ℕ) (r : Replay) → r.next.0 ≡ n → r.remaining ≡ k → Flies k n (replay.Some r)
+flies-all : (n k : ℕ) (r : Replay) → r.next.0 ≡ n → r.remaining ≡ k → Flies k n (Some r)
 flies-all n zero r e u = tt
 flies-all n (suc k) r e u = (e, u)
 
-knows-live : (x : MaybeSeq) (r : MaybeReplay) (z : Bool) → Knows (truth (number x) (is_live r) (batch_of r)) x r z
-knows-live x replay.None true = ((tt, tt), tt)
-knows-live x replay.None false = ((tt, refl), tt)
-knows-live x (replay.Some r) z = (tt, flies-all r.next.0 r.remaining r refl refl)
+knows-live : (x : Option SeqNum) (r : Option Replay) (z : Bool) → Knows (truth (number x) (is_live r) (batch_of r)) x r z
+knows-live x None true = ((tt, tt), tt)
+knows-live x None false = ((tt, refl), tt)
+knows-live x (Some r) z = (tt, flies-all r.next.0 r.remaining r refl refl)
 
 pub peer-knows : (kind : Kind) (s : Sess) → Knows (peer_for kind s) s.inbound_next s.replay (is_peer_finished s.peer_finished)
 peer-knows message s = knows-live s.inbound_next s.replay (is_peer_finished s.peer_finished)
@@ -45,18 +42,18 @@ peer-knows other s = (tt, tt)
 peer-knows (opens n) s = (tt, tt)
 peer-knows ours s = (tt, tt)
 
-may-arrive : (r : MaybeReplay) (o : Asked) → ReplayFits r o → MayArrive (batch_of r).left (is_live r)
-may-arrive replay.None o h = refl
-may-arrive (replay.Some r) idle h = absurd h
-may-arrive (replay.Some r) (asking f c d) h = go r.remaining h.1
+may-arrive : (r : Option Replay) (o : Asked) → ReplayFits r o → MayArrive (batch_of r).left (is_live r)
+may-arrive None o h = refl
+may-arrive (Some r) idle h = absurd h
+may-arrive (Some r) (asking f c d) h = go r.remaining h.1
   where
     go : (k : ℕ) → 0 < k → MayArrive k false
     go zero p = absurd (omega arith)
     go (suc k) p = tt
 
-opens-true : (n : MaybeSeq) → OpensTrue n (number n)
-opens-true seq.None = tt
-opens-true (seq.Some n) = refl
+opens-true : (n : Option SeqNum) → OpensTrue n (number n)
+opens-true None = tt
+opens-true (Some n) = refl
 
 pub peer-truthful : (kind : Kind) (s : Sess) → ReplayFits s.replay (asked_of s.outstanding) → Truthful kind (peer_for kind s)
 peer-truthful message s h = may-arrive s.replay (asked_of s.outstanding) h
@@ -149,14 +146,14 @@ consumed-in first e f c d k (g ∷ gs) rs n a ch l h w = go (ranges_at_front f c
 
 -- what leaves the gaps when a request is over was delivered: k is the delivered count on release and on asking again, and the whole
 -- count on completion, where it is no more than was delivered
-pub consumed-was-delivered : (o : Outstanding) (s : Sess) (first : ℕ) (log : List Taking) (rej : List Gap) → Good (with_outstanding (outstanding.Some o) s) first log rej → (k : ℕ) → k ≤ o.delivered →
-    (n : ℕ) → Holds n s.gaps.missing → (Holds n (consume_missing k s.gaps).missing → ⊥) → Delivered n (outstanding.Some o)
+pub consumed-was-delivered : (o : Outstanding) (s : Sess) (first : ℕ) (log : List Taking) (rej : List Gap) → Good (with_outstanding (Some o) s) first log rej → (k : ℕ) → k ≤ o.delivered →
+    (n : ℕ) → Holds n s.gaps.missing → (Holds n (consume_missing k s.gaps).missing → ⊥) → Delivered n (Some o)
 consumed-was-delivered o s first log rej i k l n a b =
     consumed-in first (number s.inbound_next) o.from.0 o.count o.delivered k s.gaps.missing s.gaps.overflow_received n i.numbers.asked i.numbers.gaps l a b
 
 -- a request that a replayed message completes was delivered in full: its count is what was delivered, with that message
-pub complete-is-delivered : (o : Outstanding) (r : Replay) (now : Instant) (last : Bool) (s : Sess) (first : ℕ) (log : List Taking) (rej : List Gap) → let S = with_replay (replay.Some r) (with_outstanding (outstanding.Some o) s) in
-    Good S first log rej → (counted_at (outstanding.Some o) now last S).complete ≡ true → o.count ≡ o.delivered + 1
+pub complete-is-delivered : (o : Outstanding) (r : Replay) (now : Instant) (last : Bool) (s : Sess) (first : ℕ) (log : List Taking) (rej : List Gap) → let S = with_replay (Some r) (with_outstanding (Some o) s) in
+    Good S first log rej → (counted_at (Some o) now last S).complete ≡ true → o.count ≡ o.delivered + 1
 complete-is-delivered o r now last s first log rej i =
     by-test (λ (k : Counted). k.complete ≡ true → o.count ≡ o.delivered + 1) (eqb o.delivered (2 ^ 32 - 1))
     (λ t e. absurd (let v = eqb-true o.delivered (2 ^ 32 - 1) t in let c = i.counts in let a = i.replays.1 in let b = i.replays.2 in omega arith))

@@ -1,9 +1,7 @@
 -- Loss can't renumber: the invariant holds at the start and after everything that is allowed, and counts are read back as membership.
-use Rattle.std.specs.Prelude.{◌≡◌, refl, List, [], ◌∷◌, ℕ, ◌+◌, ◌<◌, ◌≤◌, ◌^◌}
+use Rattle.std.specs.Prelude.{◌≡◌, refl, List, [], ◌∷◌, ℕ, ◌+◌, ◌<◌, ◌≤◌, ◌^◌, Option, Some, None}
 use Rattle.std.proofs.Common.{inl, inr, arith}
-use Rattle.rules.specs.Names.{SessionId, MaybeSeq, FlowType, FixpConfig, Gap, MaybeOutstanding}
-use Rattle.rules.specs.Names.seq
-use Rattle.rules.specs.Names.outstanding
+use Rattle.rules.specs.Names.{SessionId, SeqNum, FlowType, FixpConfig, Gap, Outstanding}
 use Rattle.rules.specs.Binding.{new_session}
 use Rattle.loss.specs.Seen.{Taking, number}
 use Rattle.loss.specs.History.{History, fresh, Happening, run, Obeys}
@@ -48,17 +46,17 @@ took-times n [] h = absurd h
 took-times n (p ∷ log) (inl q) = let e = hit-in n p.took (p.took + 1) (omega arith) (omega arith) in omega arith
 took-times n (p ∷ log) (inr r) = let e = took-times n log r in omega arith
 
-pub delivered-counts : (n : ℕ) (o : MaybeOutstanding) → Delivered n o → 1 ≤ delivered n (asked_of o)
+pub delivered-counts : (n : ℕ) (o : Option Outstanding) → Delivered n o → 1 ≤ delivered n (asked_of o)
 unfolding delivered
-delivered-counts n outstanding.None h = absurd h
-delivered-counts n (outstanding.Some o) h = let e = hit-in n o.from.0 (o.from.0 + o.delivered) h.0 h.1 in omega arith
+delivered-counts n None h = absurd h
+delivered-counts n (Some o) h = let e = hit-in n o.from.0 (o.from.0 + o.delivered) h.0 h.1 in omega arith
 
-pub counts-delivered : (n : ℕ) (o : MaybeOutstanding) → 1 ≤ delivered n (asked_of o) → Delivered n o
+pub counts-delivered : (n : ℕ) (o : Option Outstanding) → 1 ≤ delivered n (asked_of o) → Delivered n o
 unfolding delivered
-counts-delivered n outstanding.None h = absurd (omega arith)
-counts-delivered n (outstanding.Some o) h = go (place n o.from.0 (o.from.0 + o.delivered))
+counts-delivered n None h = absurd (omega arith)
+counts-delivered n (Some o) h = go (place n o.from.0 (o.from.0 + o.delivered))
   where
-    go : Place n o.from.0 (o.from.0 + o.delivered) (hit n o.from.0 (o.from.0 + o.delivered)) → Delivered n (outstanding.Some o)
+    go : Place n o.from.0 (o.from.0 + o.delivered) (hit n o.from.0 (o.from.0 + o.delivered)) → Delivered n (Some o)
     go (below a e) = absurd (omega arith)
     go (inside a b e) = (a, b)
     go (above a e) = absurd (omega arith)
@@ -103,9 +101,9 @@ module _ (h : History) (n : ℕ) where
         not_yet = λ t. let k = delivered-counts n h.world.session.outstanding t in omega arith;
       })
 
-pub before-number : (n : ℕ) (x : MaybeSeq) → Before n x → n < number x
-before-number n seq.None b = absurd b
-before-number n (seq.Some e) b = b
+pub before-number : (n : ℕ) (x : Option SeqNum) → Before n x → n < number x
+before-number n None b = absurd b
+before-number n (Some e) b = b
 
 -- ---- the three claims, of any history that has the invariant
 pub accepted-as-given : (h : History) → Invariant h → AsGiven h.accepted

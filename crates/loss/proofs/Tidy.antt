@@ -1,13 +1,12 @@
 -- Every session reached from new is a sound record, and a sequenced peer always has an expected number: each step queues at most 6
 -- outputs with reasons that fit, and no list outgrows its room. Any flows, any calls.
-use Rattle.std.specs.Prelude.{◌≡◌, refl, List, [], ◌∷◌, ◌++◌, Bool, true, false, not, ◌&&◌, ◌||◌, ℕ, suc, ◌+◌, ◌-◌, ◌≤◌, ◌^◌, length, ltb, leb, eqb, if◌then◌else◌}
+use Rattle.std.specs.Prelude.{◌≡◌, refl, List, [], ◌∷◌, ◌++◌, Bool, true, false, not, ◌&&◌, ◌||◌, ℕ, suc, ◌+◌, ◌-◌, ◌≤◌, ◌^◌, length, ltb, leb, eqb, if◌then◌else◌, Option, Some, None, Ok}
 use Rattle.std.proofs.Common.{ap, arith, length-append, leb-true, leb-false, le-leb}
 use Rattle.types.specs.Base.{all_ones, same_id, deadline_at}
 use Rattle.types.specs.Flows.{is_sequenced, is_recoverable, is_idempotent, is_finished}
 use Rattle.types.specs.States.{is_stay, is_established, is_closing, with_received, with_keepalive, leave_sequence}
 use Rattle.types.specs.Reasons.{no_text, reason_fits}
-use Rattle.rules.specs.Names.{SeqNum, SessionId, Nanotime, Instant, MaybeSeq, FlowType, TerminationCode, RetransmitRejectCode, RetransmitStallPolicy, FixpConfig, Reason, Context, RetransmitRequest, Retransmission, RetransmitReject, Terminate, FinishedSending, NotApplied, PeerMessage, Event, Output, Bound, BindState, Binding, MaybeBinding, Gap, MaybeGap, Outstanding, MaybeOutstanding, MaybePeerFinished, Replay, MaybeReplay, MaybeProvider, Answer}
-use Rattle.rules.specs.Names.seq
+use Rattle.rules.specs.Names.{SeqNum, SessionId, Nanotime, Instant, FlowType, TerminationCode, RetransmitRejectCode, RetransmitStallPolicy, FixpConfig, Reason, Context, RetransmitRequest, Retransmission, RetransmitReject, Terminate, FinishedSending, NotApplied, PeerMessage, Event, Output, Bound, BindState, Binding, Gap, Outstanding, PeerFinished, Replay, Provider, Answer}
 use Rattle.rules.specs.Names.flow
 use Rattle.rules.specs.Names.code
 use Rattle.rules.specs.Names.policy
@@ -15,13 +14,7 @@ use Rattle.rules.specs.Names.event as ev
 use Rattle.rules.specs.Names.peer
 use Rattle.rules.specs.Names.bound
 use Rattle.rules.specs.Names.state
-use Rattle.rules.specs.Names.linked
-use Rattle.rules.specs.Names.gap
-use Rattle.rules.specs.Names.outstanding
-use Rattle.rules.specs.Names.provider
-use Rattle.rules.specs.Names.finished
-use Rattle.rules.specs.Names.replay
-use Rattle.rules.specs.Names.answer
+use Rattle.rules.specs.Names.verdict
 use Rattle.rules.specs.Lists.{is_nil, rest, front_of, back_of, set_back, drop_below}
 use Rattle.rules.specs.State.{Lists, Sess, Queue, queued, Did, did, stays, saying, answering, and_then, with_outbound, with_inbound, with_start, with_gaps, with_outstanding, with_replay, with_awaiting, with_provider, with_peer_finished}
 use Rattle.rules.specs.Outputs.{event, event_with, event_quoting}
@@ -130,9 +123,9 @@ consumed-tidy : (k : ℕ) (s : Sess) → TidyS s → TidyS (consumed k s)
 consumed-tidy k s t = fewer-tidy (consume_missing k s.gaps) s (consume-few k s.gaps) t
 
 -- ---- ending
-released-tidy : (o : MaybeOutstanding) (s : Sess) → TidyS s → TidyS (released_at o s)
-released-tidy outstanding.None s t = t
-released-tidy (outstanding.Some o) s t = consumed-tidy o.delivered (with_outstanding outstanding.None s) t
+released-tidy : (o : Option Outstanding) (s : Sess) → TidyS s → TidyS (released_at o s)
+released-tidy None s t = t
+released-tidy (Some o) s t = consumed-tidy o.delivered (with_outstanding None s) t
 
 release-tidy : (s : Sess) → TidyS s → TidyS (release_binding_state s)
 unfolding release_binding_state
@@ -151,9 +144,9 @@ unfolding fail no_text
 fail-brief j c n s b t =
     record {
       tidy = release-tidy s t;
-      few = by-test (λ (l : List Output). length l ≤ 3) (is_established b.state.it) (λ u. omega arith) (λ u. omega arith);
+      few = by-test (λ (l : List Output). length l ≤ 3) (is_established b.state) (λ u. omega arith) (λ u. omega arith);
       staying = tt;
-      fit = by-test (λ (l : List Output). texts_fit l ≡ true) (is_established b.state.it) (λ u. refl) (λ u. refl);
+      fit = by-test (λ (l : List Output). texts_fit l ≡ true) (is_established b.state) (λ u. refl) (λ u. refl);
     }
 
 violation-brief : (j n : ℕ) (s : Sess) (b : Binding) → TidyS s → Brief 4 j (violation n s b)
@@ -167,28 +160,28 @@ bad : (k j n : ℕ) (s : Sess) (b : Binding) → 4 ≤ k → TidyS s → Brief k
 bad k j n s b h t = more 4 j k j (violation n s b) h (omega arith) (violation-brief j n s b t)
 
 still : (k j : ℕ) (s : Sess) (b : Binding) → TidyS s → Brief k j (stays s b [])
-still k j s b t = did-brief k j s b [] bound.Stay answer.Ok t (omega arith) (omega arith) refl
+still k j s b t = did-brief k j s b [] bound.Stay (Ok verdict.Done) t (omega arith) (omega arith) refl
 
 -- ---- asking
-ask_for-brief : (g : MaybeGap) (now : Instant) (stamp : Nanotime) (s : Sess) (b : Binding) → TidyS s → Brief 3 1 (ask_for g now stamp s b)
+ask_for-brief : (g : Option Gap) (now : Instant) (stamp : Nanotime) (s : Sess) (b : Binding) → TidyS s → Brief 3 1 (ask_for g now stamp s b)
 unfolding ask no_text
-ask_for-brief gap.None now stamp s b t = still 3 1 s b t
-ask_for-brief (gap.Some g) now stamp s b t =
+ask_for-brief None now stamp s b t = still 3 1 s b t
+ask_for-brief (Some g) now stamp s b t =
     by-test (Brief 3 1) (leb g.end.0 g.from.0) (λ u. still 3 1 s b t)
     (λ u. by-test (Brief 3 1) (eqb stamp.0 all_ones) (λ v. fail-brief 1 code.UnspecifiedError 20 s b t)
-    (λ v. did-brief 3 1 (with_outstanding (outstanding.Some (asked stamp g.from _ now)) s) (leave_sequence b) _ bound.Stay answer.Ok t (omega arith) (omega arith) refl))
+    (λ v. did-brief 3 1 (with_outstanding (Some (asked stamp g.from _ now)) s) (leave_sequence b) _ bound.Stay (Ok verdict.Done) t (omega arith) (omega arith) refl))
 
 request-brief : (now : Instant) (stamp : Nanotime) (s : Sess) (b : Binding) → TidyS s → Brief 3 1 (request_missing now stamp s b)
 unfolding request_missing
 request-brief now stamp s b t =
-    by-test (Brief 3 1) (is_established b.state.it && is_recoverable s.remote_flow && not (is_outstanding s.outstanding)) (λ u. ask_for-brief (front_of s.gaps.missing) now stamp s b t) (λ u. still 3 1 s b t)
+    by-test (Brief 3 1) (is_established b.state && is_recoverable s.remote_flow && not (is_outstanding s.outstanding)) (λ u. ask_for-brief (front_of s.gaps.missing) now stamp s b t) (λ u. still 3 1 s b t)
 
-finish_at-brief : (f : MaybePeerFinished) (s : Sess) (b : Binding) → TidyS s → Brief 1 1 (finish_at f s b)
+finish_at-brief : (f : Option PeerFinished) (s : Sess) (b : Binding) → TidyS s → Brief 1 1 (finish_at f s b)
 unfolding no_text
-finish_at-brief finished.None s b t = still 1 1 s b t
-finish_at-brief (finished.Some f) s b t =
-    by-test (Brief 1 1) (f.receiving_sent || not (is_established b.state.it) || not (is_nil s.gaps.missing) || is_outstanding s.outstanding) (λ u. still 1 1 s b t)
-    (λ u. did-brief 1 1 (with_peer_finished (finished.Some (record { receiving_sent = true; end = f.end })) s) (leave_sequence b) _ bound.Stay answer.Ok t (omega arith) (omega arith) refl)
+finish_at-brief None s b t = still 1 1 s b t
+finish_at-brief (Some f) s b t =
+    by-test (Brief 1 1) (f.receiving_sent || not (is_established b.state) || not (is_nil s.gaps.missing) || is_outstanding s.outstanding) (λ u. still 1 1 s b t)
+    (λ u. did-brief 1 1 (with_peer_finished (Some (record { receiving_sent = true; end = f.end })) s) (leave_sequence b) _ bound.Stay (Ok verdict.Done) t (omega arith) (omega arith) refl)
 
 finish-brief : (s : Sess) (b : Binding) → TidyS s → Brief 1 1 (maybe_finish_receiving s b)
 unfolding maybe_finish_receiving
@@ -201,19 +194,19 @@ recovered-brief now stamp s b t =
     (λ u. let d : Did = saying (event ev.RecoveryComplete ∷ []) (maybe_finish_receiving s b) in more 2 2 3 2 d (omega arith) (omega arith) (saying-brief 1 1 1 (event ev.RecoveryComplete ∷ []) (maybe_finish_receiving s b) (omega arith) refl (finish-brief s b t)))
     (λ u. more 3 1 3 2 (request_missing now stamp s b) (omega arith) (omega arith) (request-brief now stamp s b t))
 
-completed-tidy : (o : MaybeOutstanding) (s : Sess) → TidyS s → TidyS (completed_at o s)
-completed-tidy outstanding.None s t = t
-completed-tidy (outstanding.Some o) s t = consumed-tidy o.count (with_outstanding outstanding.None s) t
+completed-tidy : (o : Option Outstanding) (s : Sess) → TidyS s → TidyS (completed_at o s)
+completed-tidy None s t = t
+completed-tidy (Some o) s t = consumed-tidy o.count (with_outstanding None s) t
 
 complete-brief : (now : Instant) (stamp : Nanotime) (s : Sess) (b : Binding) → TidyS s → Brief 3 2 (complete_outstanding now stamp s b)
 unfolding complete_outstanding
-complete-brief now stamp s b t = recovered-brief now stamp (with_replay replay.None (completed_at s.outstanding s)) b (completed-tidy s.outstanding s t)
+complete-brief now stamp s b t = recovered-brief now stamp (with_replay None (completed_at s.outstanding s)) b (completed-tidy s.outstanding s t)
 
-header_at-brief : (o : MaybeOutstanding) (now : Instant) (m : Retransmission) (s : Sess) (b : Binding) → TidyS s → Brief 4 0 (header_at o now m s b)
-header_at-brief outstanding.None now m s b t = violation-brief 0 23 s b t
-header_at-brief (outstanding.Some o) now m s b t =
+header_at-brief : (o : Option Outstanding) (now : Instant) (m : Retransmission) (s : Sess) (b : Binding) → TidyS s → Brief 4 0 (header_at o now m s b)
+header_at-brief None now m s b t = violation-brief 0 23 s b t
+header_at-brief (Some o) now m s b t =
     by-test (Brief 4 0) (not (eqb m.request_timestamp.0 o.timestamp.0)) (λ u. violation-brief 0 24 s b t)
-    (λ u. by-test (Brief 4 0) (not (in_range m o)) (λ v. violation-brief 0 25 s b t) (λ v. did-brief 4 0 _ b [] bound.Stay answer.Ok t (omega arith) (omega arith) refl))
+    (λ u. by-test (Brief 4 0) (not (in_range m o)) (λ v. violation-brief 0 25 s b t) (λ v. did-brief 4 0 _ b [] bound.Stay (Ok verdict.Done) t (omega arith) (omega arith) refl))
 
 header-brief : (now : Instant) (m : Retransmission) (s : Sess) (b : Binding) → TidyS s → Brief 4 0 (on_retransmission now m s b)
 unfolding on_retransmission
@@ -227,14 +220,14 @@ one-fits false e = e
 
 unasked-brief : (s : Sess) (b : Binding) → TidyS s → Brief 4 3 (unasked s b)
 unfolding no_text
-unasked-brief s b t = did-brief 4 3 s b _ bound.Stay answer.Ok t (omega arith) (omega arith) refl
+unasked-brief s b t = did-brief 4 3 s b _ bound.Stay (Ok verdict.Done) t (omega arith) (omega arith) refl
 
-rejected_at-brief : (o : MaybeOutstanding) (now : Instant) (stamp : Nanotime) (m : RetransmitReject) (text : Reason) (s : Sess) (b : Binding) → reason_fits text ≡ true → TidyS s → Brief 4 3 (rejected_at o now stamp m text s b)
-rejected_at-brief outstanding.None now stamp m text s b e t = unasked-brief s b t
-rejected_at-brief (outstanding.Some o) now stamp m text s b e t =
+rejected_at-brief : (o : Option Outstanding) (now : Instant) (stamp : Nanotime) (m : RetransmitReject) (text : Reason) (s : Sess) (b : Binding) → reason_fits text ≡ true → TidyS s → Brief 4 3 (rejected_at o now stamp m text s b)
+rejected_at-brief None now stamp m text s b e t = unasked-brief s b t
+rejected_at-brief (Some o) now stamp m text s b e t =
     by-test (Brief 4 3) (eqb o.timestamp.0 m.request_timestamp.0 && same_id m.session_id s.id)
     (λ u. saying-brief 1 3 2 (event_quoting (ev.RetransmitRejected o.from o.count m.code) text ∷ []) _ (omega arith) (one-fits (reason_fits text) e)
-    (recovered-brief now stamp (consumed o.count (with_replay replay.None (with_outstanding outstanding.None s))) b (consumed-tidy o.count (with_replay replay.None (with_outstanding outstanding.None s)) t)))
+    (recovered-brief now stamp (consumed o.count (with_replay None (with_outstanding None s))) b (consumed-tidy o.count (with_replay None (with_outstanding None s)) t)))
     (λ u. unasked-brief s b t)
 
 reject-brief : (now : Instant) (stamp : Nanotime) (m : RetransmitReject) (text : Reason) (s : Sess) (b : Binding) → reason_fits text ≡ true → TidyS s → Brief 4 3 (on_retransmit_reject now stamp m text s b)
@@ -243,7 +236,7 @@ reject-brief now stamp m text s b e t = rejected_at-brief s.outstanding now stam
 
 re_request-brief : (now : Instant) (stamp : Nanotime) (o : Outstanding) (s : Sess) (b : Binding) → TidyS s → Brief 3 1 (re_request now stamp o s b)
 unfolding re_request
-re_request-brief now stamp o s b t = request-brief now stamp (consumed o.delivered (with_replay replay.None (with_outstanding outstanding.None s))) b (consumed-tidy o.delivered (with_replay replay.None (with_outstanding outstanding.None s)) t)
+re_request-brief now stamp o s b t = request-brief now stamp (consumed o.delivered (with_replay None (with_outstanding None s))) b (consumed-tidy o.delivered (with_replay None (with_outstanding None s)) t)
 
 -- ---- gaps
 -- the gap list has room for one more where it may grow
@@ -251,7 +244,7 @@ room : (c : FixpConfig) → config_fits c ≡ true → c.max_pending_gaps ≤ 64
 unfolding config_fits
 room c e = leb-true c.max_pending_gaps 64 (and_right (leb 1 c.max_gap_len && leb 1 c.max_retransmit_count && leb 1 c.max_pending_gaps) (leb c.max_pending_gaps 64) e)
 
-sequenced-number : (p : FlowType) (n : SeqNum) → If (is_sequenced p) (IsNumber (seq.Some n))
+sequenced-number : (p : FlowType) (n : SeqNum) → If (is_sequenced p) (IsNumber (Some n))
 sequenced-number flow.Recoverable n = tt
 sequenced-number flow.Idempotent n = tt
 sequenced-number flow.Unsequenced n = tt
@@ -271,18 +264,18 @@ append_gap-few max from to g h f =
     by-test (λ (k : Kept). Few k.gaps) (leb max (length g.missing)) (λ t. f)
     (λ t. appended-few from to g (let u = leb-false max (length g.missing) t in omega arith) f.1)
 
-has_last : (m : MaybeGap) (g h : Gap) (ms : List Gap) → HasLast m (h ∷ ms) → HasLast m (g ∷ h ∷ ms)
-has_last gap.None g h ms e = absurd (omega arith)
-has_last (gap.Some x) g h ms e = omega arith
+has_last : (m : Option Gap) (g h : Gap) (ms : List Gap) → HasLast m (h ∷ ms) → HasLast m (g ∷ h ∷ ms)
+has_last None g h ms e = absurd (omega arith)
+has_last (Some x) g h ms e = omega arith
 
 back_last : (ms : List Gap) → HasLast (back_of ms) ms
 back_last [] = refl
 back_last (g ∷ []) = omega arith
 back_last (g ∷ h ∷ ms) = has_last (back_of (h ∷ ms)) g h ms (back_last (h ∷ ms))
 
-record_at-few : (m : MaybeGap) (max : ℕ) (from to : SeqNum) (g : Lists) → HasLast m g.missing → max ≤ 64 → Few g → Few (record_at m max from to g).gaps
-record_at-few gap.None max from to g n h f = append_gap-few max from to g h f
-record_at-few (gap.Some last) max from to g n h f =
+record_at-few : (m : Option Gap) (max : ℕ) (from to : SeqNum) (g : Lists) → HasLast m g.missing → max ≤ 64 → Few g → Few (record_at m max from to g).gaps
+record_at-few None max from to g n h f = append_gap-few max from to g h f
+record_at-few (Some last) max from to g n h f =
     by-test (λ (k : Kept). Few k.gaps) (eqb last.end.0 from.0)
     (λ t. (let s = back-same g.missing (gap_of last.from to) n in let a = f.0 in omega arith, f.1))
     (λ t. append_gap-few max from to g h f)
@@ -291,9 +284,9 @@ record-few : (max : ℕ) (from to : SeqNum) (g : Lists) → max ≤ 64 → Few g
 unfolding record_gap
 record-few max from to g h f = record_at-few (back_of g.missing) max from to g (back_last g.missing) h f
 
-hold_at-few : (m : MaybeGap) (from to : SeqNum) (g : Lists) → HasLast m g.missing → Few g → Few (hold_at m from to g).gaps
-hold_at-few gap.None from to g n f = appended-few from to g (omega arith) f.1
-hold_at-few (gap.Some last) from to g n f =
+hold_at-few : (m : Option Gap) (from to : SeqNum) (g : Lists) → HasLast m g.missing → Few g → Few (hold_at m from to g).gaps
+hold_at-few None from to g n f = appended-few from to g (omega arith) f.1
+hold_at-few (Some last) from to g n f =
     by-test (λ (k : Kept). Few k.gaps) (leb from.0 last.end.0) (λ t. widen-few last to g n f)
     (λ t. by-test (λ (k : Kept). Few k.gaps) (leb max_runs (length g.overflow_received)) (λ u. f)
     (λ u. widen-few last to (lists g.missing (g.overflow_received ++ (gap_of last.end from ∷ []))) n (f.0, let s = snoc-more g.overflow_received (gap_of last.end from) in let v = leb-false max_runs (length g.overflow_received) u in omega arith)))
@@ -311,27 +304,27 @@ few-tidy : (g : Lists) (s : Sess) → Few g → TidyS s → TidyS (with_gaps g s
 few-tidy g s f t = record { config = t.config; few_gaps = f.0; few_runs = f.1; numbered = t.numbered }
 
 -- the peer's next number is expected
-number-tidy : (n : SeqNum) (s : Sess) → TidyS s → TidyS (with_inbound (seq.Some n) s)
+number-tidy : (n : SeqNum) (s : Sess) → TidyS s → TidyS (with_inbound (Some n) s)
 number-tidy n s t = record { config = t.config; few_gaps = t.few_gaps; few_runs = t.few_runs; numbered = sequenced-number s.remote_flow n }
 
 gap_held-brief : (to : SeqNum) (k : Kept) (s : Sess) (b : Binding) → Few k.gaps → TidyS s → Brief 4 0 (gap_held to k s b)
 unfolding gap_held
 gap_held-brief to k s b f t =
-    by-test (Brief 4 0) k.ok (λ u. violation-brief 0 18 (with_inbound (seq.Some to) (with_gaps k.gaps s)) b (number-tidy to (with_gaps k.gaps s) (few-tidy k.gaps s f t)))
+    by-test (Brief 4 0) k.ok (λ u. violation-brief 0 18 (with_inbound (Some to) (with_gaps k.gaps s)) b (number-tidy to (with_gaps k.gaps s) (few-tidy k.gaps s f t)))
     (λ u. violation-brief 0 18 (with_gaps k.gaps s) b (few-tidy k.gaps s f t))
 
 gap_recorded-brief : (now : Instant) (stamp : Nanotime) (from to : SeqNum) (k : Kept) (s : Sess) (b : Binding) → Few k.gaps → TidyS s → Brief 4 1 (gap_recorded now stamp from to k s b)
 unfolding gap_recorded
 gap_recorded-brief now stamp from to k s b f t =
     by-test (Brief 4 1) k.ok
-    (λ u. let S : Sess = with_inbound (seq.Some to) (with_gaps k.gaps s) in more 3 1 4 1 (request_missing now stamp S b) (omega arith) (omega arith) (request-brief now stamp S b (number-tidy to (with_gaps k.gaps s) (few-tidy k.gaps s f t))))
+    (λ u. let S : Sess = with_inbound (Some to) (with_gaps k.gaps s) in more 3 1 4 1 (request_missing now stamp S b) (omega arith) (omega arith) (request-brief now stamp S b (number-tidy to (with_gaps k.gaps s) (few-tidy k.gaps s f t))))
     (λ u. let h : Kept = hold_refused_gap s.config.max_pending_gaps from to k.gaps in more 4 0 4 1 (gap_held to h s b) (omega arith) (omega arith) (gap_held-brief to h s b (hold-few s.config.max_pending_gaps from to k.gaps (room s.config t.config) f) t))
 
 -- ---- NotApplied to an Idempotent peer
 allocate-brief : (s : Sess) (b : Binding) → TidyS s → Brief 1 1 (allocate_outbound s b)
 unfolding allocate_outbound no_text
 allocate-brief s b t =
-    did-brief 1 1 (with_outbound (next s.outbound_next) s) _ _ bound.Stay answer.Ok t
+    did-brief 1 1 (with_outbound (next s.outbound_next) s) _ _ bound.Stay (Ok verdict.Done) t
     (by-test (λ (l : List Output). length l ≤ 1) b.in_sequence (λ u. omega arith) (λ u. omega arith))
     (by-test (λ (l : List Output). length l ≤ 1) b.in_sequence (λ u. omega arith) (λ u. omega arith))
     (by-test (λ (l : List Output). texts_fit l ≡ true) b.in_sequence (λ u. refl) (λ u. refl))
@@ -341,12 +334,12 @@ unfolding no_text
 numbered-brief now m s b t =
     by-test (Brief 3 2) (outbound_exhausted s) (λ u. fail-brief 2 code.UnspecifiedError 39 s b t)
     (λ u. let a = allocate-brief s b t in let d : Did = allocate_outbound s b in more 2 2 3 2 (not_applied_after now s.outbound_next m d) (omega arith) (omega arith)
-    (saying-brief 1 1 1 d.outs _ a.few a.fit (did-brief 1 1 d.session (with_keepalive now d.binding) _ bound.Stay answer.Ok a.tidy (omega arith) (omega arith) refl)))
+    (saying-brief 1 1 1 d.outs _ a.few a.fit (did-brief 1 1 d.session (with_keepalive now d.binding) _ bound.Stay (Ok verdict.Done) a.tidy (omega arith) (omega arith) refl)))
 
 not_applied_on-brief : (p : FlowType) (now : Instant) (m : NotApplied) (s : Sess) (b : Binding) → TidyS s → Brief 3 2 (not_applied_on p now m s b)
 unfolding no_text
 not_applied_on-brief flow.None now m s b t = still 3 2 s b t
-not_applied_on-brief flow.Unsequenced now m s b t = did-brief 3 2 s (with_keepalive now b) _ bound.Stay answer.Ok t (omega arith) (omega arith) refl
+not_applied_on-brief flow.Unsequenced now m s b t = did-brief 3 2 s (with_keepalive now b) _ bound.Stay (Ok verdict.Done) t (omega arith) (omega arith) refl
 not_applied_on-brief flow.Recoverable now m s b t = numbered-brief now m s b t
 not_applied_on-brief flow.Idempotent now m s b t = numbered-brief now m s b t
 
@@ -354,11 +347,11 @@ gap_reported-brief : (now : Instant) (from to : SeqNum) (s : Sess) (b : Binding)
 unfolding gap_reported send_not_applied
 gap_reported-brief now from to s b t =
     by-test (Brief 4 2) (leb (2 ^ 32) (to.0 - from.0)) (λ u. violation-brief 2 19 S b (number-tidy to s t))
-    (λ u. by-test (Brief 4 2) (not (is_established b.state.it)) (λ v. still 4 2 S b (number-tidy to s t))
+    (λ u. by-test (Brief 4 2) (not (is_established b.state)) (λ v. still 4 2 S b (number-tidy to s t))
     (λ v. more 3 2 4 2 (not_applied_on s.local_flow now m S b) (omega arith) (omega arith) (not_applied_on-brief s.local_flow now m S b (number-tidy to s t))))
   where
     S : Sess
-    S = with_inbound (seq.Some to) s
+    S = with_inbound (Some to) s
 
     m : NotApplied
     m = record { from_seq_no = from; count = to.0 - from.0 }
@@ -368,28 +361,28 @@ gap_on-brief flow.Recoverable now stamp from to s b t =
     let k : Kept = record_gap s.config.max_pending_gaps from to s.gaps in
     more 4 1 4 2 (gap_recorded now stamp from to k s b) (omega arith) (omega arith) (gap_recorded-brief now stamp from to k s b (record-few s.config.max_pending_gaps from to s.gaps (room s.config t.config) (few s t)) t)
 gap_on-brief flow.Idempotent now stamp from to s b t = gap_reported-brief now from to s b t
-gap_on-brief flow.Unsequenced now stamp from to s b t = still 4 2 (with_inbound (seq.Some to) s) b (number-tidy to s t)
-gap_on-brief flow.None now stamp from to s b t = still 4 2 (with_inbound (seq.Some to) s) b (number-tidy to s t)
+gap_on-brief flow.Unsequenced now stamp from to s b t = still 4 2 (with_inbound (Some to) s) b (number-tidy to s t)
+gap_on-brief flow.None now stamp from to s b t = still 4 2 (with_inbound (Some to) s) b (number-tidy to s t)
 
 on_gap-brief : (now : Instant) (stamp : Nanotime) (from to : SeqNum) (s : Sess) (b : Binding) → TidyS s → Brief 5 3 (on_gap now stamp from to s b)
 unfolding on_gap no_text
 on_gap-brief now stamp from to s b t = saying-brief 1 4 2 (event (ev.SequenceGap from (to.0 - from.0)) ∷ []) _ (omega arith) refl (gap_on-brief s.remote_flow now stamp from to s b t)
 
 -- ---- announced numbers
-stop_at-tidy : (r : MaybeReplay) (now : Instant) (s : Sess) → TidyS s → TidyS (stop_at r now s)
-stop_at-tidy replay.None now s t = t
-stop_at-tidy (replay.Some r) now s t = t
+stop_at-tidy : (r : Option Replay) (now : Instant) (s : Sess) → TidyS s → TidyS (stop_at r now s)
+stop_at-tidy None now s t = t
+stop_at-tidy (Some r) now s t = t
 
-announced_to-brief : (x : MaybeSeq) (now : Instant) (stamp : Nanotime) (to : SeqNum) (s : Sess) (b : Binding) → TidyS s → Brief 5 3 (announced_to x now stamp to s b)
-announced_to-brief seq.None now stamp to s b t = still 5 3 (with_inbound (seq.Some to) s) b (number-tidy to s t)
-announced_to-brief (seq.Some e) now stamp to s b t =
+announced_to-brief : (x : Option SeqNum) (now : Instant) (stamp : Nanotime) (to : SeqNum) (s : Sess) (b : Binding) → TidyS s → Brief 5 3 (announced_to x now stamp to s b)
+announced_to-brief None now stamp to s b t = still 5 3 (with_inbound (Some to) s) b (number-tidy to s t)
+announced_to-brief (Some e) now stamp to s b t =
     by-test (Brief 5 3) (ltb to.0 e.0) (λ u. bad 5 3 17 s b (omega arith) t)
     (λ u. by-test (Brief 5 3) (eqb to.0 e.0) (λ v. still 5 3 s b t)
     (λ v. by-test (Brief 5 3) (ltb s.config.max_gap_len (to.0 - e.0)) (λ w. bad 5 3 16 s b (omega arith) t) (λ w. on_gap-brief now stamp e to s b t)))
 
 announced-brief : (now : Instant) (stamp : Nanotime) (to : SeqNum) (s : Sess) (b : Binding) → TidyS s → Brief 5 3 (announced now stamp to s b)
 unfolding announced
-announced-brief now stamp to s b t = by-test (Brief 5 3) s.start_pending (λ u. still 5 3 (with_inbound (seq.Some to) (with_start false s)) b (number-tidy to s t)) (λ u. announced_to-brief s.inbound_next now stamp to s b t)
+announced-brief now stamp to s b t = by-test (Brief 5 3) s.start_pending (λ u. still 5 3 (with_inbound (Some to) (with_start false s)) b (number-tidy to s t)) (λ u. announced_to-brief s.inbound_next now stamp to s b t)
 
 next-brief : (now : Instant) (stamp : Nanotime) (to : SeqNum) (s : Sess) (b : Binding) → TidyS s → Brief 5 3 (on_next_seq now stamp to s b)
 unfolding on_next_seq stop_replay
@@ -404,9 +397,9 @@ complete_if-brief : (c : Bool) (now : Instant) (stamp : Nanotime) (s : Sess) (b 
 unfolding complete_if
 complete_if-brief c now stamp s b t = by-test (Brief 3 2) c (λ u. complete-brief now stamp s b t) (λ u. still 3 2 s b t)
 
-counted-tidy : (o : MaybeOutstanding) (now : Instant) (last : Bool) (s : Sess) → TidyS s → TidyS (counted_at o now last s).session
-counted-tidy outstanding.None now last s t = t
-counted-tidy (outstanding.Some o) now last s t = by-test (λ (k : Counted). TidyS k.session) (eqb o.delivered (2 ^ 32 - 1)) (λ u. t) (λ u. t)
+counted-tidy : (o : Option Outstanding) (now : Instant) (last : Bool) (s : Sess) → TidyS s → TidyS (counted_at o now last s).session
+counted-tidy None now last s t = t
+counted-tidy (Some o) now last s t = by-test (λ (k : Counted). TidyS k.session) (eqb o.delivered (2 ^ 32 - 1)) (λ u. t) (λ u. t)
 
 replayed-brief : (now : Instant) (stamp : Nanotime) (r : Replay) (s : Sess) (b : Binding) → TidyS s → Brief 4 2 (on_replayed now stamp r s b)
 unfolding on_replayed replayed_counted received_in_overflow count_delivered
@@ -420,11 +413,11 @@ replayed-brief now stamp r s b t =
     answering-brief 4 2 _ d (more 3 2 4 2 d (omega arith) (omega arith) (complete_if-brief k.complete now stamp (with_gaps g k.session) b
     (fewer-tidy g k.session (record { gaps = omega arith; runs = drop-few r.next.0 k.session.gaps.overflow_received }) c))))
 
-numbered_as-brief : (x : MaybeSeq) (s : Sess) (b : Binding) → TidyS s → Brief 4 2 (numbered_as x s b)
-numbered_as-brief seq.None s b t = answering-brief 4 2 discard (violation 11 s b) (violation-brief 2 11 s b t)
-numbered_as-brief (seq.Some n) s b t =
+numbered_as-brief : (x : Option SeqNum) (s : Sess) (b : Binding) → TidyS s → Brief 4 2 (numbered_as x s b)
+numbered_as-brief None s b t = answering-brief 4 2 discard (violation 11 s b) (violation-brief 2 11 s b t)
+numbered_as-brief (Some n) s b t =
     by-test (Brief 4 2) (eqb n.0 all_ones) (λ u. answering-brief 4 2 discard (violation 12 s b) (violation-brief 2 12 s b t))
-    (λ u. did-brief 4 2 (with_inbound (seq.Some (next n)) s) b [] bound.Stay _ (number-tidy (next n) s t) (omega arith) (omega arith) refl)
+    (λ u. did-brief 4 2 (with_inbound (Some (next n)) s) b [] bound.Stay _ (number-tidy (next n) s t) (omega arith) (omega arith) refl)
 
 live-brief : (s : Sess) (b : Binding) → TidyS s → Brief 4 2 (number_live s b)
 unfolding number_live
@@ -436,14 +429,14 @@ live_on-brief flow.Unsequenced s b t = did-brief 4 2 s b [] bound.Stay _ t (omeg
 live_on-brief flow.Recoverable s b t = live-brief s b t
 live_on-brief flow.Idempotent s b t = live-brief s b t
 
-arrived_in-brief : (r : MaybeReplay) (now : Instant) (stamp : Nanotime) (s : Sess) (b : Binding) → TidyS s → Brief 4 2 (arrived_in r now stamp s b)
+arrived_in-brief : (r : Option Replay) (now : Instant) (stamp : Nanotime) (s : Sess) (b : Binding) → TidyS s → Brief 4 2 (arrived_in r now stamp s b)
 unfolding on_live
-arrived_in-brief replay.None now stamp s b t = by-test (Brief 4 2) (is_peer_finished s.peer_finished) (λ u. answering-brief 4 2 discard (violation 8 s b) (violation-brief 2 8 s b t)) (λ u. live_on-brief s.remote_flow s b t)
-arrived_in-brief (replay.Some r) now stamp s b t = replayed-brief now stamp r s b t
+arrived_in-brief None now stamp s b t = by-test (Brief 4 2) (is_peer_finished s.peer_finished) (λ u. answering-brief 4 2 discard (violation 8 s b) (violation-brief 2 8 s b t)) (λ u. live_on-brief s.remote_flow s b t)
+arrived_in-brief (Some r) now stamp s b t = replayed-brief now stamp r s b t
 
 pub application-brief : (now : Instant) (stamp : Nanotime) (s : Sess) (b : Binding) → TidyS s → Brief 4 2 (on_application now stamp s b)
 unfolding on_application no_text
-application-brief now stamp s b t = by-test (Brief 4 2) (is_closing b.state.it) (λ u. did-brief 4 2 s b _ bound.Stay _ t (omega arith) (omega arith) refl) (λ u. arrived_in-brief s.replay now stamp s (with_received now b) t)
+application-brief now stamp s b t = by-test (Brief 4 2) (is_closing b.state) (λ u. did-brief 4 2 s b _ bound.Stay _ t (omega arith) (omega arith) refl) (λ u. arrived_in-brief s.replay now stamp s (with_received now b) t)
 
 -- the event of an Applied or NotApplied follows
 reporting-brief : (e : Event) (d : Did) → Brief 4 2 d → Brief 5 3 (reporting e d)
@@ -469,30 +462,30 @@ not_applied-brief now stamp e s b t = by-test (Brief 5 3) (not (is_idempotent s.
 -- ---- serving
 refuse-brief : (m : RetransmitRequest) (c : RetransmitRejectCode) (n : ℕ) (s : Sess) (b : Binding) → TidyS s → Brief 4 2 (refuse_retransmit m c n s b)
 unfolding refuse_retransmit no_text
-refuse-brief m c n s b t = did-brief 4 2 s (leave_sequence b) _ bound.Stay answer.Ok t (omega arith) (omega arith) refl
+refuse-brief m c n s b t = did-brief 4 2 s (leave_sequence b) _ bound.Stay (Ok verdict.Done) t (omega arith) (omega arith) refl
 
 served-brief : (m : RetransmitRequest) (s : Sess) (b : Binding) → TidyS s → Brief 4 2 (on_retransmit_request m s b)
 unfolding on_retransmit_request serve no_text
 served-brief m s b t =
-    by-test (Brief 4 2) (not (is_established b.state.it)) (λ u. did-brief 4 2 s b _ bound.Stay answer.Ok t (omega arith) (omega arith) refl)
+    by-test (Brief 4 2) (not (is_established b.state)) (λ u. did-brief 4 2 s b _ bound.Stay (Ok verdict.Done) t (omega arith) (omega arith) refl)
     (λ u. by-test (Brief 4 2) (not (is_recoverable s.local_flow)) (λ v. violation-brief 2 28 s b t)
     (λ v. by-test (Brief 4 2) (not (same_id m.session_id s.id)) (λ w. refuse-brief m _ 29 s b t)
     (λ w. by-test (Brief 4 2) (is_serving s.provider) (λ x. saying-brief 1 3 1 (event_with ev.ProtocolViolation 30 ∷ []) (fail code.ReRequestInProgress 30 s b) (omega arith) refl (fail-brief 1 code.ReRequestInProgress 30 s b t))
     (λ x. by-test (Brief 4 2) (eqb m.count 0) (λ y. refuse-brief m _ 31 s b t)
     (λ y. by-test (Brief 4 2) (ltb s.config.max_retransmit_count m.count) (λ z. refuse-brief m _ 32 s b t)
-    (λ z. by-test (Brief 4 2) (not (is_sent m s)) (λ a. refuse-brief m _ 33 s b t) (λ a. did-brief 4 2 (with_provider _ s) b _ bound.Stay answer.Ok t (omega arith) (omega arith) refl)))))))
+    (λ z. by-test (Brief 4 2) (not (is_sent m s)) (λ a. refuse-brief m _ 33 s b t) (λ a. did-brief 4 2 (with_provider _ s) b _ bound.Stay (Ok verdict.Done) t (omega arith) (omega arith) refl)))))))
 
 -- ---- finishing
-finished_with-brief : (e : MaybeSeq) (s : Sess) (b : Binding) → TidyS s → Brief 1 1 (finished_with e s b)
+finished_with-brief : (e : Option SeqNum) (s : Sess) (b : Binding) → TidyS s → Brief 1 1 (finished_with e s b)
 unfolding finished_with
-finished_with-brief e s b t = finish-brief (with_peer_finished (finished.Some (record { receiving_sent = false; end = e })) s) b t
+finished_with-brief e s b t = finish-brief (with_peer_finished (Some (record { receiving_sent = false; end = e })) s) b t
 
-last_at-brief : (x : MaybeSeq) (now : Instant) (stamp : Nanotime) (s : Sess) (b : Binding) → TidyS s → Brief 5 4 (last_at x now stamp s b)
-last_at-brief seq.None now stamp s b t = bad 5 4 36 s b (omega arith) t
-last_at-brief (seq.Some last) now stamp s b t =
+last_at-brief : (x : Option SeqNum) (now : Instant) (stamp : Nanotime) (s : Sess) (b : Binding) → TidyS s → Brief 5 4 (last_at x now stamp s b)
+last_at-brief None now stamp s b t = bad 5 4 36 s b (omega arith) t
+last_at-brief (Some last) now stamp s b t =
     by-test (Brief 5 4) (eqb last.0 all_ones) (λ u. bad 5 4 37 s b (omega arith) t)
     (λ u. by-test (Brief 5 4) (below s.inbound_next (last.0 + 1)) (λ v. bad 5 4 38 s b (omega arith) t)
-    (λ v. let d : Did = on_next_seq now stamp (next last) s b in and_then-brief 5 3 1 1 5 4 d (finished_with (seq.Some (next last))) (omega arith) (omega arith) (omega arith) (next-brief now stamp (next last) s b t) (λ t'. finished_with-brief (seq.Some (next last)) d.session d.binding t')))
+    (λ v. let d : Did = on_next_seq now stamp (next last) s b in and_then-brief 5 3 1 1 5 4 d (finished_with (Some (next last))) (omega arith) (omega arith) (omega arith) (next-brief now stamp (next last) s b t) (λ t'. finished_with-brief (Some (next last)) d.session d.binding t')))
 
 finished-brief : (now : Instant) (stamp : Nanotime) (m : FinishedSending) (s : Sess) (b : Binding) → TidyS s → Brief 6 5 (on_finished_sending now stamp m s b)
 unfolding on_finished_sending finished_sending no_text
@@ -501,7 +494,7 @@ finished-brief now stamp m s b t =
     (λ u. by-test (Brief 6 5) (is_peer_finished s.peer_finished) (λ v. still 6 5 s b t)
     (λ v. saying-brief 1 5 4 (event (ev.PeerFinishedSending m.last_seq_no) ∷ []) _ (omega arith) refl
     (by-test (Brief 5 4) (is_sequenced s.remote_flow) (λ w. last_at-brief m.last_seq_no now stamp s b t)
-    (λ w. more 1 1 5 4 (finished_with seq.None s b) (omega arith) (omega arith) (finished_with-brief seq.None s b t)))))
+    (λ w. more 1 1 5 4 (finished_with None s b) (omega arith) (omega arith) (finished_with-brief None s b t)))))
 
 -- ---- binding
 resume-brief : (now : Instant) (stamp : Nanotime) (s : Sess) (b : Binding) → TidyS s → Brief 3 2 (resume now stamp s b)
@@ -510,13 +503,13 @@ resume-brief now stamp s b t =
     let d : Did = request_missing now stamp s b in
     and_then-brief 3 1 1 1 3 2 d maybe_finish_receiving (omega arith) (omega arith) (omega arith) (request-brief now stamp s b t) (λ t'. finish-brief d.session d.binding t')
 
-established_at-brief : (x : MaybeSeq) (now : Instant) (stamp : Nanotime) (s : Sess) (b : Binding) → TidyS s → Brief 6 5 (established_at x now stamp s b)
-established_at-brief seq.None now stamp s b t = more 3 2 6 5 (resume now stamp s b) (omega arith) (omega arith) (resume-brief now stamp s b t)
-established_at-brief (seq.Some n) now stamp s b t =
+established_at-brief : (x : Option SeqNum) (now : Instant) (stamp : Nanotime) (s : Sess) (b : Binding) → TidyS s → Brief 6 5 (established_at x now stamp s b)
+established_at-brief None now stamp s b t = more 3 2 6 5 (resume now stamp s b) (omega arith) (omega arith) (resume-brief now stamp s b t)
+established_at-brief (Some n) now stamp s b t =
     let d : Did = on_next_seq now stamp n s b in
     and_then-brief 5 3 3 2 6 5 d (resume now stamp) (omega arith) (omega arith) (omega arith) (next-brief now stamp n s b t) (λ t'. resume-brief now stamp d.session d.binding t')
 
-pub bind-brief : (now : Instant) (stamp : Nanotime) (l r : ℕ) (x : MaybeSeq) (s : Sess) → TidyS s → Brief 6 5 (bind now stamp l r x s)
+pub bind-brief : (now : Instant) (stamp : Nanotime) (l r : ℕ) (x : Option SeqNum) (s : Sess) → TidyS s → Brief 6 5 (bind now stamp l r x s)
 unfolding bind on_established
 bind-brief now stamp l r x s t =
     let R : Sess = release_binding_state s in
@@ -526,13 +519,13 @@ bind-brief now stamp l r x s t =
 -- ---- messages of the peer
 terminate_at-brief : (k : BindState) (now : Instant) (reason : Reason) (m : Terminate) (text : Reason) (s : Sess) (b : Binding) → reason_fits reason ≡ true → reason_fits text ≡ true → TidyS s → Brief 4 2 (terminate_at k now reason m text s b)
 unfolding no_text
-terminate_at-brief state.Established now reason m text s b f g t = did-brief 4 2 (ended_by (is_finished m.code) s) _ _ bound.Stay answer.Ok (ended-tidy (is_finished m.code) s t) (omega arith) (omega arith) (one-fits (reason_fits text) g)
-terminate_at-brief (state.Terminating u c) now reason m text s b f g t = did-brief 4 2 (ended_by (is_finished c && is_finished m.code) s) b _ bound.Unbind answer.Ok (ended-tidy (is_finished c && is_finished m.code) s t) (omega arith) tt (one-fits (reason_fits reason) f)
+terminate_at-brief state.Established now reason m text s b f g t = did-brief 4 2 (ended_by (is_finished m.code) s) _ _ bound.Stay (Ok verdict.Done) (ended-tidy (is_finished m.code) s t) (omega arith) (omega arith) (one-fits (reason_fits text) g)
+terminate_at-brief (state.Terminating u c) now reason m text s b f g t = did-brief 4 2 (ended_by (is_finished c && is_finished m.code) s) b _ bound.Unbind (Ok verdict.Done) (ended-tidy (is_finished c && is_finished m.code) s t) (omega arith) tt (one-fits (reason_fits reason) f)
 terminate_at-brief (state.Closing d) now reason m text s b f g t = still 4 2 s b t
 
 terminated-brief : (now : Instant) (reason : Reason) (m : Terminate) (text : Reason) (s : Sess) (b : Binding) → reason_fits reason ≡ true → reason_fits text ≡ true → TidyS s → Brief 4 2 (on_terminate now reason m text s b)
 unfolding on_terminate
-terminated-brief now reason m text s b f g t = by-test (Brief 4 2) (not (same_id m.session_id s.id)) (λ u. violation-brief 2 34 s b t) (λ u. terminate_at-brief b.state.it now reason m text s b f g t)
+terminated-brief now reason m text s b f g t = by-test (Brief 4 2) (not (same_id m.session_id s.id)) (λ u. violation-brief 2 34 s b t) (λ u. terminate_at-brief b.state now reason m text s b f g t)
 
 context-brief : (now : Instant) (stamp : Nanotime) (m : Context) (s : Sess) (b : Binding) → TidyS s → Brief 5 3 (on_context now stamp m s b)
 unfolding on_context
@@ -562,7 +555,7 @@ message-brief peer.MessageTemplate now stamp reason text s b f g t = still 6 5 s
 pub peer-brief : (m : PeerMessage) (now : Instant) (stamp : Nanotime) (reason text : Reason) (s : Sess) (b : Binding) → reason_fits reason ≡ true → reason_fits text ≡ true → TidyS s → Brief 6 5 (on_peer m now stamp reason text s b)
 unfolding on_peer no_text
 peer-brief m now stamp reason text s b f g t =
-    by-test (Brief 6 5) (is_closing b.state.it) (λ u. did-brief 6 5 s b _ bound.Stay _ t (omega arith) (omega arith) refl) (λ u. message-brief m now stamp reason text s (with_received now b) f g t)
+    by-test (Brief 6 5) (is_closing b.state) (λ u. did-brief 6 5 s b _ bound.Stay _ t (omega arith) (omega arith) refl) (λ u. message-brief m now stamp reason text s (with_received now b) f g t)
 
 -- ---- local calls
 pub send-brief : (now : Instant) (s : Sess) (b : Binding) → TidyS s → Brief 6 5 (local.send_application now s b)
@@ -575,21 +568,21 @@ send-brief now s b t =
 pub terminate-brief : (now : Instant) (c : TerminationCode) (text : Reason) (s : Sess) (b : Binding) → reason_fits text ≡ true → TidyS s → Brief 6 5 (local.terminate now c text s b)
 unfolding local.terminate no_text
 terminate-brief now c text s b e t =
-    by-test (Brief 6 5) (is_finished c) (λ u. did-brief 6 5 (with_provider provider.None s) _ _ bound.Stay answer.Ok t (omega arith) (omega arith) (one-fits (reason_fits text) e))
-    (λ u. did-brief 6 5 (release_binding_state s) b _ bound.Unbind answer.Ok (release-tidy s t) (omega arith) tt (two-fit (reason_fits text) e))
+    by-test (Brief 6 5) (is_finished c) (λ u. did-brief 6 5 (with_provider None s) _ _ bound.Stay (Ok verdict.Done) t (omega arith) (omega arith) (one-fits (reason_fits text) e))
+    (λ u. did-brief 6 5 (release_binding_state s) b _ bound.Unbind (Ok verdict.Done) (release-tidy s t) (omega arith) tt (two-fit (reason_fits text) e))
   where
     two-fit : (x : Bool) → x ≡ true → x && (x && true) ≡ true
     two-fit true e = refl
     two-fit false e = e
 
-pub batch_at-brief : (v : MaybeProvider) (now : Instant) (count : ℕ) (s : Sess) (b : Binding) → TidyS s → Brief 6 5 (local.batch_at v now count s b)
+pub batch_at-brief : (v : Option Provider) (now : Instant) (count : ℕ) (s : Sess) (b : Binding) → TidyS s → Brief 6 5 (local.batch_at v now count s b)
 unfolding local.batch no_text
-batch_at-brief provider.None now count s b t = still 6 5 s b t
-batch_at-brief (provider.Some v) now count s b t = did-brief 6 5 (with_provider (local.provider_after count v) s) _ _ bound.Stay _ t (omega arith) (omega arith) refl
+batch_at-brief None now count s b t = still 6 5 s b t
+batch_at-brief (Some v) now count s b t = did-brief 6 5 (with_provider (local.provider_after count v) s) _ _ bound.Stay _ t (omega arith) (omega arith) refl
 
-pub reject_at-brief : (v : MaybeProvider) (c : RetransmitRejectCode) (text : Reason) (s : Sess) (b : Binding) → reason_fits text ≡ true → TidyS s → Brief 6 5 (local.reject_at v c text s b)
-reject_at-brief provider.None c text s b e t = still 6 5 s b t
-reject_at-brief (provider.Some v) c text s b e t = did-brief 6 5 (with_provider provider.None s) (leave_sequence b) _ bound.Stay answer.Ok t (omega arith) (omega arith) (one-fits (reason_fits text) e)
+pub reject_at-brief : (v : Option Provider) (c : RetransmitRejectCode) (text : Reason) (s : Sess) (b : Binding) → reason_fits text ≡ true → TidyS s → Brief 6 5 (local.reject_at v c text s b)
+reject_at-brief None c text s b e t = still 6 5 s b t
+reject_at-brief (Some v) c text s b e t = did-brief 6 5 (with_provider None s) (leave_sequence b) _ bound.Stay (Ok verdict.Done) t (omega arith) (omega arith) (one-fits (reason_fits text) e)
 
 -- ---- timers
 stall_by-brief : (p : RetransmitStallPolicy) (now : Instant) (stamp : Nanotime) (o : Outstanding) (s : Sess) (b : Binding) → TidyS s → Brief 3 1 (stall_by p now stamp o s b)
@@ -599,10 +592,10 @@ stall_by-brief policy.ReRequestAfterContextSwitch now stamp o s b t = by-test (B
 stall_by-brief policy.ReRequestAfterBatch now stamp o s b t = by-test (Brief 3 1) (o.interrupted || o.batch_complete) (λ u. re_request-brief now stamp o s b t) (λ u. still 3 1 _ b t)
 stall_by-brief policy.EventOnly now stamp o s b t = still 3 1 _ b t
 
-stall_of-brief : (o : MaybeOutstanding) (now : Instant) (stamp : Nanotime) (s : Sess) (b : Binding) → TidyS s → Brief 4 2 (stall_of o now stamp s b)
+stall_of-brief : (o : Option Outstanding) (now : Instant) (stamp : Nanotime) (s : Sess) (b : Binding) → TidyS s → Brief 4 2 (stall_of o now stamp s b)
 unfolding on_stall no_text
-stall_of-brief outstanding.None now stamp s b t = still 4 2 s b t
-stall_of-brief (outstanding.Some o) now stamp s b t = saying-brief 1 3 1 (event (ev.RetransmitTimedOut o.from o.count) ∷ []) _ (omega arith) refl (stall_by-brief s.config.retransmit_stall_policy now stamp o s b t)
+stall_of-brief None now stamp s b t = still 4 2 s b t
+stall_of-brief (Some o) now stamp s b t = saying-brief 1 3 1 (event (ev.RetransmitTimedOut o.from o.count) ∷ []) _ (omega arith) refl (stall_by-brief s.config.retransmit_stall_policy now stamp o s b t)
 
 stall-brief : (now : Instant) (stamp : Nanotime) (s : Sess) (b : Binding) → TidyS s → Brief 4 2 (stall_if_due now stamp s b)
 unfolding stall_if_due
@@ -612,7 +605,7 @@ beat-brief : (now : Instant) (s : Sess) (b : Binding) → TidyS s → Brief 1 1 
 unfolding heartbeat_if_due heartbeat no_text
 beat-brief now s b t =
     by-test (Brief 1 1) (is_due (heartbeat_deadline b) now)
-    (λ u. by-test (Brief 1 1) (is_sequenced s.local_flow) (λ v. did-brief 1 1 s _ _ bound.Stay answer.Ok t (omega arith) (omega arith) refl) (λ v. did-brief 1 1 s _ _ bound.Stay answer.Ok t (omega arith) (omega arith) refl))
+    (λ u. by-test (Brief 1 1) (is_sequenced s.local_flow) (λ v. did-brief 1 1 s _ _ bound.Stay (Ok verdict.Done) t (omega arith) (omega arith) refl) (λ v. did-brief 1 1 s _ _ bound.Stay (Ok verdict.Done) t (omega arith) (omega arith) refl))
     (λ u. still 1 1 s b t)
 
 pub timeout_in-brief : (k : BindState) (now : Instant) (stamp : Nanotime) (reason : Reason) (s : Sess) (b : Binding) → reason_fits reason ≡ true → TidyS s → Brief 6 5 (timeout_in k now stamp reason s b)
@@ -622,8 +615,8 @@ timeout_in-brief state.Established now stamp reason s b f t =
     (λ u. let d : Did = saying (event ev.KeepaliveLapsed ∷ []) (fail code.UnspecifiedError 40 s b) in more 4 5 6 5 d (omega arith) (omega arith) (saying-brief 1 3 4 (event ev.KeepaliveLapsed ∷ []) (fail code.UnspecifiedError 40 s b) (omega arith) refl (fail-brief 4 code.UnspecifiedError 40 s b t)))
     (λ u. let d : Did = stall_if_due now stamp s b in and_then-brief 4 2 1 1 6 5 d (heartbeat_if_due now) (omega arith) (omega arith) (omega arith) (stall-brief now stamp s b t) (λ t'. beat-brief now d.session d.binding t'))
 timeout_in-brief (state.Terminating sent c) now stamp reason s b f t =
-    by-test (Brief 6 5) (is_due (deadline_at (sent.0 + b.local_keepalive)) now) (λ u. did-brief 6 5 (release_binding_state s) b _ bound.Unbind answer.Ok (release-tidy s t) (omega arith) tt (one-fits (reason_fits reason) f)) (λ u. still 6 5 s b t)
-timeout_in-brief (state.Closing deadline) now stamp reason s b f t = by-test (Brief 6 5) (is_due deadline now) (λ u. did-brief 6 5 s b _ bound.Unbind answer.Ok t (omega arith) tt refl) (λ u. still 6 5 s b t)
+    by-test (Brief 6 5) (is_due (deadline_at (sent.0 + b.local_keepalive)) now) (λ u. did-brief 6 5 (release_binding_state s) b _ bound.Unbind (Ok verdict.Done) (release-tidy s t) (omega arith) tt (one-fits (reason_fits reason) f)) (λ u. still 6 5 s b t)
+timeout_in-brief (state.Closing deadline) now stamp reason s b f t = by-test (Brief 6 5) (is_due deadline now) (λ u. did-brief 6 5 s b _ bound.Unbind (Ok verdict.Done) t (omega arith) tt refl) (λ u. still 6 5 s b t)
 
 -- ---- every call
 passed : (a : Bool) (x : _) (r : Refused) → Passes (unless a x r) → (a ≡ true) × Passes r
@@ -645,9 +638,9 @@ ran-snug w reason k d i r e b =
       fit = fits-app w.queue.outs d.outs i.fit b.fit;
     }
 
-in-link : (w : World) (f : Binding → Refused) (k : Binding → Did) (reason : Reason) (m : MaybeBinding) → Passes (if_bound m f) → ((b : Binding) → Passes (f b) → Snug (ran_as w.queue reason (k b)).world) → Snug (rules.within w m k reason).world
-in-link w f k reason linked.None h g = absurd h
-in-link w f k reason (linked.Some b) h g = g b h
+in-link : (w : World) (f : Binding → Refused) (k : Binding → Did) (reason : Reason) (m : Option Binding) → Passes (if_bound m f) → ((b : Binding) → Passes (f b) → Snug (ran_as w.queue reason (k b)).world) → Snug (rules.within w m k reason).world
+in-link w f k reason None h g = absurd h
+in-link w f k reason (Some b) h g = g b h
 
 room_fits : (q : Queue) → has_room q ≡ true → length q.outs + 6 ≤ max_outs
 room_fits q e = leb-true (length q.outs + 6) max_outs e
@@ -672,7 +665,7 @@ done-snug (send_call now) w i h =
     (λ b p. ran-snug w w.link.reason 6 (local.send_application now w.session b) i (room_fits w.queue (passed (has_room w.queue) _ _ p).0) i.reason (send-brief now w.session b i.session))
 done-snug (terminate_call now c text) w i h =
     in-link w _ (local.terminate now c text w.session) text w.link.binding (passed (sound w) _ _ h).1
-    (λ b p. let a = passed (has_room w.queue) _ _ p in let e = passed (is_established b.state.it) _ _ a.1 in let f = passed (reason_fits text) _ _ e.1 in
+    (λ b p. let a = passed (has_room w.queue) _ _ p in let e = passed (is_established b.state) _ _ a.1 in let f = passed (reason_fits text) _ _ e.1 in
     ran-snug w text 6 (local.terminate now c text w.session b) i (room_fits w.queue a.0) f.0 (terminate-brief now c text w.session b f.0 i.session))
 done-snug (retransmit_call now count) w i h =
     in-link w _ (local.retransmit now count w.session) w.link.reason w.link.binding (passed (sound w) _ _ h).1
@@ -680,14 +673,14 @@ done-snug (retransmit_call now count) w i h =
     ran-snug w w.link.reason 6 (local.retransmit now count w.session b) i (room_fits w.queue c.0) i.reason (batch_at-brief w.session.provider now count w.session b i.session))
 done-snug (reject_call c text) w i h =
     in-link w _ (local.reject_retransmit_request c text w.session) w.link.reason w.link.binding (passed (sound w) _ _ h).1
-    (λ b p. let a = passed (has_room w.queue) _ _ p in let e = passed (is_established b.state.it) _ _ a.1 in let f = passed (reason_fits text) _ _ e.1 in
+    (λ b p. let a = passed (has_room w.queue) _ _ p in let e = passed (is_established b.state) _ _ a.1 in let f = passed (reason_fits text) _ _ e.1 in
     ran-snug w w.link.reason 6 (local.reject_retransmit_request c text w.session b) i (room_fits w.queue a.0) i.reason (reject_at-brief w.session.provider c text w.session b f.0 i.session))
 done-snug end_call w i h =
     in-link w _ (local.end_retransmission w.session) w.link.reason w.link.binding (passed (sound w) _ _ h).1
-    (λ b p. ran-snug w w.link.reason 0 (local.end_retransmission w.session b) i (let f = i.few in omega arith) i.reason (still 0 5 (with_provider provider.None w.session) b i.session))
+    (λ b p. ran-snug w w.link.reason 0 (local.end_retransmission w.session b) i (let f = i.few in omega arith) i.reason (still 0 5 (with_provider None w.session) b i.session))
 done-snug (timeout_call now stamp) w i h =
     in-link w _ (on_timeout now stamp w.link.reason w.session) w.link.reason w.link.binding (passed (sound w) _ _ h).1
-    (λ b p. ran-snug w w.link.reason 6 (on_timeout now stamp w.link.reason w.session b) i (room_fits w.queue (passed (has_room w.queue) _ _ p).0) i.reason (timeout_in-brief b.state.it now stamp w.link.reason w.session b i.reason i.session))
+    (λ b p. ran-snug w w.link.reason 6 (on_timeout now stamp w.link.reason w.session b) i (room_fits w.queue (passed (has_room w.queue) _ _ p).0) i.reason (timeout_in-brief b.state now stamp w.link.reason w.session b i.reason i.session))
 
 call-snug : (c : Call) (w : World) → Snug w → Snug (call c w).world
 unfolding call
@@ -716,7 +709,7 @@ unfolding reach
 reach-snug [] w i = i
 reach-snug (x ∷ xs) w i = reach-snug xs (used w x) (used-snug w x i)
 
-new-number : (remote : FlowType) → If (is_sequenced remote) (IsNumber (if is_sequenced remote then seq.Some (record { 0 = 1 }) else seq.None))
+new-number : (remote : FlowType) → If (is_sequenced remote) (IsNumber (if is_sequenced remote then Some (record { 0 = 1 }) else None))
 new-number flow.Recoverable = tt
 new-number flow.Idempotent = tt
 new-number flow.Unsequenced = tt

@@ -1,12 +1,10 @@
 -- Histories that compute: one that meets every assumption and has everything in it, and one for each assumption that breaks without it.
-use Rattle.std.specs.Prelude.{◌≡◌, List, [], ◌∷◌, Bool, true, not, ◌&&◌, ◌||◌, ℕ, zero, suc, eqb}
+use Rattle.std.specs.Prelude.{◌≡◌, List, [], ◌∷◌, Bool, true, not, ◌&&◌, ◌||◌, ℕ, zero, suc, eqb, Option, Some, None}
 use Rattle.types.specs.Reasons.{no_text}
-use Rattle.rules.specs.Names.{SeqNum, Nanotime, Instant, SessionId, MaybeSeq, FixpConfig, PeerMessage, Gap}
-use Rattle.rules.specs.Names.seq
+use Rattle.rules.specs.Names.{SeqNum, Nanotime, Instant, SessionId, FixpConfig, PeerMessage, Gap}
 use Rattle.rules.specs.Names.flow
 use Rattle.rules.specs.Names.rejection
 use Rattle.rules.specs.Names.policy
-use Rattle.rules.specs.Names.duration
 use Rattle.rules.specs.Names.peer
 use Rattle.rules.specs.Gaps.{gap_of}
 use Rattle.rules.specs.Calls.{World, Call, bind_call, release_call, peer_call, application_call, call, opened}
@@ -18,9 +16,9 @@ abbrev pub may_arrive : ℕ → Bool → Bool
 may_arrive zero told = told
 may_arrive (suc k) told = true
 
-abbrev pub opens_true : MaybeSeq → ℕ → Bool
-opens_true seq.None next = true
-opens_true (seq.Some n) next = eqb n.0 next
+abbrev pub opens_true : Option SeqNum → ℕ → Bool
+opens_true None next = true
+opens_true (Some n) next = eqb n.0 next
 
 abbrev pub truthful : Kind → Truth → Bool
 truthful message p = may_arrive p.batch.left p.told
@@ -61,12 +59,12 @@ small =
       max_retransmit_count = 10;
       max_pending_gaps = 2;
       retransmit_timeout = 1000;
-      peer_silence_grace = duration.None;
+      peer_silence_grace = None;
       retransmit_stall_policy = policy.ReRequestAfterBatch;
     }
 
 abbrev pub binds : ℕ → Call
-binds n = bind_call at seven 1000 1000 (seq.Some (num n))
+binds n = bind_call at seven 1000 1000 (Some (num n))
 
 abbrev pub says : PeerMessage → Call
 says m = peer_call at seven m no_text
@@ -145,7 +143,7 @@ pub record Needed : Type 0 where
   -- the true number: 5 is announced, 2 arrives
   pub told_truly : taken new (quietly (binds 1) ∷ given arrives_one 1 ∷ quietly (sequence 5) ∷ given arrives_one 2 ∷ []) [] ≡ wrongly 2 5 ∷ right 1 ∷ []
   -- "each binding opens with that number": 2 is lost, and 3 arrives in a binding that opened without it
-  pub told_by_binding : taken new (quietly (binds 1) ∷ given arrives_one 1 ∷ quietly release_call ∷ quietly (bind_call at seven 1000 1000 seq.None) ∷ given arrives_one 3 ∷ []) [] ≡ wrongly 3 2 ∷ right 1 ∷ []
+  pub told_by_binding : taken new (quietly (binds 1) ∷ given arrives_one 1 ∷ quietly release_call ∷ quietly (bind_call at seven 1000 1000 None) ∷ given arrives_one 3 ∷ []) [] ≡ wrongly 3 2 ∷ right 1 ∷ []
   -- a live message behind a batch whose tail was lost, with no number before it
   pub told_after_batch : taken new (two_missing (quietly (header 2 2) ∷ given arrives_one 2 ∷ given arrives_one 4 ∷ [])) [] ≡ wrongly 4 3 ∷ right 2 ∷ right 1 ∷ []
   -- "loses only its tail": 2 is lost out of the batch, 3 arrives
@@ -169,4 +167,4 @@ pub record Needed : Type 0 where
   -- "a Recoverable peer": of an Idempotent one 1 and 2 are skipped, neither accepted nor rejected nor in a gap
   pub recoverable :
       let s = (call (sequence 3) (call (binds 1) (opened self flow.Recoverable flow.Idempotent small)).world).world.session in
-      (s.inbound_next ≡ seq.Some (num 3)) × (s.gaps.missing ≡ [])
+      (s.inbound_next ≡ Some (num 3)) × (s.gaps.missing ≡ [])

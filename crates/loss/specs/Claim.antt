@@ -1,8 +1,6 @@
 -- Demand 3: loss can't renumber. What is claimed of a history; `loss-cannot-renumber` in proofs/Theorem is the proof.
-use Rattle.std.specs.Prelude.{ℕ, ◌+◌, ◌<◌, ◌≤◌, ◌^◌, ◌≡◌, List, [], ◌∷◌, ◌⊎◌}
-use Rattle.rules.specs.Names.{SessionId, MaybeSeq, FlowType, FixpConfig, Gap, MaybeOutstanding}
-use Rattle.rules.specs.Names.seq
-use Rattle.rules.specs.Names.outstanding
+use Rattle.std.specs.Prelude.{ℕ, ◌+◌, ◌<◌, ◌≤◌, ◌^◌, ◌≡◌, List, [], ◌∷◌, ◌⊎◌, Option, Some, None}
+use Rattle.rules.specs.Names.{SessionId, SeqNum, FlowType, FixpConfig, Gap, Outstanding}
 use Rattle.loss.specs.Seen.{Taking}
 use Rattle.loss.specs.History.{History, fresh, Happening, run, Obeys}
 
@@ -17,14 +15,14 @@ Took n [] = ⊥
 Took n (t ∷ l) = (t.took ≡ n) ⊎ Took n l
 
 -- n is among the delivered of the outstanding request
-abbrev pub Delivered : ℕ → MaybeOutstanding → Type 0
-Delivered n outstanding.None = ⊥
-Delivered n (outstanding.Some o) = (o.from.0 ≤ n) × (n < o.from.0 + o.delivered)
+abbrev pub Delivered : ℕ → Option Outstanding → Type 0
+Delivered n None = ⊥
+Delivered n (Some o) = (o.from.0 ≤ n) × (n < o.from.0 + o.delivered)
 
 -- n comes before the expected number
-abbrev pub Before : ℕ → MaybeSeq → Type 0
-Before n seq.None = ⊥
-Before n (seq.Some e) = n < e.0
+abbrev pub Before : ℕ → Option SeqNum → Type 0
+Before n None = ⊥
+Before n (Some e) = n < e.0
 
 -- "every number accepted is the one the peer gave"
 abbrev pub AsGiven : List Taking → Type 0

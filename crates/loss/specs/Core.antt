@@ -1,7 +1,6 @@
 -- What holds of the numbers, over the parts of a session and its history. Each way in which it changes is in proofs/Core.
-use Rattle.std.specs.Prelude.{◌≡◌, List, [], ◌∷◌, ℕ, ◌+◌, ◌≤◌}
-use Rattle.rules.specs.Names.{SeqNum, Gap, MaybeOutstanding}
-use Rattle.rules.specs.Names.outstanding
+use Rattle.std.specs.Prelude.{◌≡◌, List, [], ◌∷◌, ℕ, ◌+◌, ◌≤◌, Option, Some, None}
+use Rattle.rules.specs.Names.{SeqNum, Gap, Outstanding}
 use Rattle.rules.specs.Gaps.{gap_of}
 use Rattle.loss.specs.Seen.{Taking}
 use Rattle.loss.specs.Count.{hit, hits}
@@ -12,9 +11,9 @@ pub data Asked : Type 0 where
   idle : Asked
   asking : ℕ → ℕ → ℕ → Asked
 
-abbrev pub asked_of : MaybeOutstanding → Asked
-asked_of outstanding.None = idle
-asked_of (outstanding.Some o) = asking o.from.0 o.count o.delivered
+abbrev pub asked_of : Option Outstanding → Asked
+asked_of None = idle
+asked_of (Some o) = asking o.from.0 o.count o.delivered
 
 -- how often n was accepted
 unfoldable pub times : ℕ → List Taking → ℕ

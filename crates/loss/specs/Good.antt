@@ -1,11 +1,8 @@
 -- The invariant of a session with a Recoverable peer, and what it means that a step keeps it.
-use Rattle.std.specs.Prelude.{◌≡◌, List, [], ◌∷◌, Bool, true, false, ◌||◌, ℕ, ◌+◌, ◌<◌, ◌≤◌, ◌^◌}
-use Rattle.rules.specs.Names.{MaybeSeq, FlowType, Bound, Gap, MaybeOutstanding, MaybeReplay}
-use Rattle.rules.specs.Names.seq
+use Rattle.std.specs.Prelude.{◌≡◌, List, [], ◌∷◌, Bool, true, false, ◌||◌, ℕ, ◌+◌, ◌<◌, ◌≤◌, ◌^◌, Option, Some, None}
+use Rattle.rules.specs.Names.{SeqNum, FlowType, Bound, Gap, Outstanding, Replay}
 use Rattle.rules.specs.Names.flow
 use Rattle.rules.specs.Names.bound
-use Rattle.rules.specs.Names.outstanding
-use Rattle.rules.specs.Names.replay
 use Rattle.rules.specs.State.{Lists, Sess, Did}
 use Rattle.rules.specs.Numbering.{is_peer_finished}
 use Rattle.rules.specs.Peer.{is_accept}
@@ -18,19 +15,19 @@ IsRecoverable flow.Idempotent = ⊥
 IsRecoverable flow.Unsequenced = ⊥
 IsRecoverable flow.None = ⊥
 
-abbrev pub IsNumber : MaybeSeq → Type 0
-IsNumber seq.None = ⊥
-IsNumber (seq.Some n) = Unit {0}
+abbrev pub IsNumber : Option SeqNum → Type 0
+IsNumber None = ⊥
+IsNumber (Some n) = Unit {0}
 
 -- the replay goes on where the delivered end, within the request
-abbrev pub ReplayFits : MaybeReplay → Asked → Type 0
-ReplayFits replay.None o = Unit {0}
-ReplayFits (replay.Some r) idle = ⊥
-ReplayFits (replay.Some r) (asking f c d) = (r.next.0 ≡ f + d) × (0 < r.remaining) × (d + r.remaining ≤ c)
+abbrev pub ReplayFits : Option Replay → Asked → Type 0
+ReplayFits None o = Unit {0}
+ReplayFits (Some r) idle = ⊥
+ReplayFits (Some r) (asking f c d) = (r.next.0 ≡ f + d) × (0 < r.remaining) × (d + r.remaining ≤ c)
 
-abbrev pub NoReplay : MaybeReplay → Type 0
-NoReplay replay.None = Unit {0}
-NoReplay (replay.Some r) = ⊥
+abbrev pub NoReplay : Option Replay → Type 0
+NoReplay None = Unit {0}
+NoReplay (Some r) = ⊥
 
 -- while the start is pending, 1 is expected and nothing is missing
 abbrev pub StartFits : Bool → ℕ → ℕ → List Gap → Type 0
@@ -44,13 +41,13 @@ CountFits idle = Unit {0}
 CountFits (asking f c d) = c < 2 ^ 32
 
 -- a request whose batch is being replayed was not interrupted, and its batch is not complete: a stall waits it out
-abbrev pub Steady : MaybeReplay → MaybeOutstanding → Type 0
-Steady replay.None o = Unit {0}
-Steady (replay.Some r) outstanding.None = Unit {0}
-Steady (replay.Some r) (outstanding.Some o) = o.interrupted || o.batch_complete ≡ false
+abbrev pub Steady : Option Replay → Option Outstanding → Type 0
+Steady None o = Unit {0}
+Steady (Some r) None = Unit {0}
+Steady (Some r) (Some o) = o.interrupted || o.batch_complete ≡ false
 
 -- max: the largest count that is asked for
-pub record Sound (max : ℕ) (f : FlowType) (x : MaybeSeq) (start : Bool) (g : Lists) (o : MaybeOutstanding) (r : MaybeReplay) (first : ℕ) (log : List Taking) (rej : List Gap) : Type 0 where
+pub record Sound (max : ℕ) (f : FlowType) (x : Option SeqNum) (start : Bool) (g : Lists) (o : Option Outstanding) (r : Option Replay) (first : ℕ) (log : List Taking) (rej : List Gap) : Type 0 where
   pub bounded : max < 2 ^ 32
   pub recoverable : IsRecoverable f
   pub numbered : IsNumber x
@@ -71,7 +68,7 @@ OnStay bound.Stay A = A
 OnStay bound.Unbind A = Unit {0}
 
 -- first: the session's first number, given the expected one; Q: what is to hold of expected number, replay and "the peer has finished"
-pub record Keeps (log : List Taking) (rej : List Gap) (first : MaybeSeq → ℕ) (Q : MaybeSeq → MaybeReplay → Bool → Type 0) (d : Did) : Type 0 where
+pub record Keeps (log : List Taking) (rej : List Gap) (first : Option SeqNum → ℕ) (Q : Option SeqNum → Option Replay → Bool → Type 0) (d : Did) : Type 0 where
   pub good : Good d.session (first d.session.inbound_next) log rej
   pub silent : reported d.outs ≡ []
   pub plain : is_accept d.answer ≡ false

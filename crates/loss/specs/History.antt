@@ -1,8 +1,7 @@
 -- Histories of the calls, with a truthful peer and a link that loses: what happens, what it leaves, and what is allowed to happen.
-use Rattle.std.specs.Prelude.{ℕ, zero, suc, ◌+◌, ◌≡◌, Bool, true, false, not, ◌&&◌, List, [], ◌∷◌, ◌++◌, eqb, if◌then◌else◌}
+use Rattle.std.specs.Prelude.{ℕ, zero, suc, ◌+◌, ◌≡◌, Bool, true, false, not, ◌&&◌, List, [], ◌∷◌, ◌++◌, eqb, if◌then◌else◌, Option, Some, None}
 use Rattle.types.specs.Base.{all_ones, same_id}
-use Rattle.rules.specs.Names.{SessionId, MaybeSeq, FlowType, FixpConfig, PeerMessage, Gap}
-use Rattle.rules.specs.Names.seq
+use Rattle.rules.specs.Names.{SessionId, SeqNum, FlowType, FixpConfig, PeerMessage, Gap}
 use Rattle.rules.specs.Names.flow
 use Rattle.rules.specs.Names.peer
 use Rattle.rules.specs.State.{Queue}
@@ -63,7 +62,7 @@ pub data Kind : Type 0 where
   -- any other message of the peer; none of them need be true, not even a FinishedSending
   other : Kind
   -- a binding opens, with the peer's next number, or without: then that has yet to arrive
-  opens : MaybeSeq → Kind
+  opens : Option SeqNum → Kind
   -- any other call of ours, a timeout too
   ours : Kind
 
@@ -106,9 +105,9 @@ sent_as zero arrived p = truth (p.next + 1) arrived no_batch
 sent_as (suc k) true p = truth p.next p.told (record { next = p.batch.next + 1; left = k })
 sent_as (suc k) false p = truth p.next p.told no_batch
 
-abbrev pub is_number : MaybeSeq → Bool
-is_number seq.None = false
-is_number (seq.Some n) = true
+abbrev pub is_number : Option SeqNum → Bool
+is_number None = false
+is_number (Some n) = true
 
 -- "sends a batch as header, then exactly its messages in order with nothing between": whatever else arrives, the batch is over.
 -- "announces its next number before anything live": a header, too, takes back what was told
@@ -163,9 +162,9 @@ abbrev pub MayArrive : ℕ → Bool → Type 0
 MayArrive zero told = told ≡ true
 MayArrive (suc k) told = Unit {0}
 
-abbrev pub OpensTrue : MaybeSeq → ℕ → Type 0
-OpensTrue seq.None next = Unit {0}
-OpensTrue (seq.Some n) next = n.0 ≡ next
+abbrev pub OpensTrue : Option SeqNum → ℕ → Type 0
+OpensTrue None next = Unit {0}
+OpensTrue (Some n) next = n.0 ≡ next
 
 -- the two things asked of what arrives: a message that is not of a batch follows its number, and an announced number is the true one
 abbrev pub Truthful : Kind → Truth → Type 0

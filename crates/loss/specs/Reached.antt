@@ -1,8 +1,7 @@
 -- Sessions reached from new by any calls at all, with a Recoverable peer that need not be truthful, and the truthful peer that could have
 -- made a single call. What holds of them is in proofs/Reached.
-use Rattle.std.specs.Prelude.{List, [], ◌∷◌, Bool, true, false, ℕ}
-use Rattle.rules.specs.Names.{Gap, MaybeReplay}
-use Rattle.rules.specs.Names.replay
+use Rattle.std.specs.Prelude.{List, [], ◌∷◌, Bool, true, false, ℕ, Option, Some, None}
+use Rattle.rules.specs.Names.{Gap, Replay}
 use Rattle.rules.specs.State.{Sess, Queue}
 use Rattle.rules.specs.Local.{Refused, passes, refuses}
 use Rattle.rules.specs.Calls.{World, world, Call, call, reading, polled, transport_closed}
@@ -40,13 +39,13 @@ pub record Accounted (w : World) : Type 0 where
   pub given : AsGiven log
 
 -- a truthful peer that makes this call: its next number is the one announced, or the one expected; its batch is the one replayed
-abbrev pub batch_of : MaybeReplay → Batch
-batch_of replay.None = no_batch
-batch_of (replay.Some r) = record { next = r.next.0; left = r.remaining }
+abbrev pub batch_of : Option Replay → Batch
+batch_of None = no_batch
+batch_of (Some r) = record { next = r.next.0; left = r.remaining }
 
-abbrev pub is_live : MaybeReplay → Bool
-is_live replay.None = true
-is_live (replay.Some r) = false
+abbrev pub is_live : Option Replay → Bool
+is_live None = true
+is_live (Some r) = false
 
 abbrev pub peer_for : Kind → Sess → Truth
 peer_for message s = truth (number s.inbound_next) (is_live s.replay) (batch_of s.replay)

@@ -1,24 +1,22 @@
 -- What is seen of a call: whether it was heard, what it accepted, and which rejections its outputs report.
-use Rattle.std.specs.Prelude.{ℕ, ◌+◌, Bool, true, false, not, List, [], ◌∷◌, ◌++◌, length, drop}
+use Rattle.std.specs.Prelude.{ℕ, ◌+◌, Bool, true, false, not, List, [], ◌∷◌, ◌++◌, length, drop, Option, Some, None, Ok, Err}
 use Rattle.types.specs.States.{is_closing}
-use Rattle.rules.specs.Names.{MaybeSeq, Output, Said, Event, MaybeBinding, Gap, Answer}
-use Rattle.rules.specs.Names.seq
+use Rattle.rules.specs.Names.{SeqNum, Output, Said, Event, Binding, Gap, Answer}
 use Rattle.rules.specs.Names.said
 use Rattle.rules.specs.Names.event as ev
-use Rattle.rules.specs.Names.linked
 use Rattle.rules.specs.Names.delivery
-use Rattle.rules.specs.Names.answer
+use Rattle.rules.specs.Names.verdict
 use Rattle.rules.specs.State.{Queue}
 use Rattle.rules.specs.Gaps.{gap_of}
 use Rattle.rules.specs.Local.{Refused, passes, refuses}
 use Rattle.rules.specs.Calls.{World, Call, wrong}
 
-abbrev pub ignores : MaybeBinding → Bool
-ignores linked.None = false
-ignores (linked.Some b) = is_closing b.state.it
+abbrev pub ignores : Option Binding → Bool
+ignores None = false
+ignores (Some b) = is_closing b.state
 
 -- "a refused or ignored call counts as a message that did not arrive"
-abbrev pub heard : Refused → MaybeBinding → Bool
+abbrev pub heard : Refused → Option Binding → Bool
 heard passes b = not (ignores b)
 heard (refuses r) b = false
 
@@ -26,9 +24,9 @@ unfoldable pub arrives : Call → World → Bool
 arrives c w = heard (wrong c w) w.link.binding
 
 -- bound, and not closing
-abbrev pub is_open : MaybeBinding → Bool
-is_open linked.None = false
-is_open (linked.Some b) = not (is_closing b.state.it)
+abbrev pub is_open : Option Binding → Bool
+is_open None = false
+is_open (Some b) = not (is_closing b.state)
 
 -- the range that an output reports as rejected
 abbrev pub rejected_in : Event → List Gap
@@ -60,9 +58,9 @@ reported (o ∷ l) = rejected_by o.said ++ reported l
 unfoldable pub added : Queue → Queue → List Output
 added before after = drop (length before.outs) after.outs
 
-abbrev pub number : MaybeSeq → ℕ
-number seq.None = 0
-number (seq.Some n) = n.0
+abbrev pub number : Option SeqNum → ℕ
+number None = 0
+number (Some n) = n.0
 
 -- an accepted message: the number that the peer gave it, and the one that the session took it for
 pub record Taking : Type 0 where
@@ -71,12 +69,12 @@ pub record Taking : Type 0 where
 
 -- what was accepted, by the answer; gave is the number that the peer gave the message
 abbrev pub noted : Answer → ℕ → List Taking → List Taking
-noted answer.Ok gave l = l
-noted (answer.Delivered delivery.Discard) gave l = l
-noted (answer.Delivered (delivery.Accept n again)) gave l = record { gave = gave; took = number n } ∷ l
-noted (answer.Sent n) gave l = l
-noted (answer.Batch b) gave l = l
-noted (answer.Refused r) gave l = l
+noted (Ok verdict.Done) gave l = l
+noted (Ok (verdict.Delivered delivery.Discard)) gave l = l
+noted (Ok (verdict.Delivered (delivery.Accept n again))) gave l = record { gave = gave; took = number n } ∷ l
+noted (Ok (verdict.Sent n)) gave l = l
+noted (Ok (verdict.Batch b)) gave l = l
+noted (Err r) gave l = l
 
 -- "The session's first number is the expected one when the start stops being pending": as it stands, where a message that is accepted
 -- settles the start

@@ -1,12 +1,8 @@
 -- 01's three slips, each put in the place of one step of the rules: what it does to the claims, computed.
-use Rattle.std.specs.Prelude.{◌≡◌, [], ◌∷◌, false}
-use Rattle.rules.specs.Names.{MaybeOutstanding, MaybeReplay}
-use Rattle.rules.specs.Names.seq
+use Rattle.std.specs.Prelude.{◌≡◌, [], ◌∷◌, false, Option, Some, None, Ok, Err}
+use Rattle.rules.specs.Names.{Outstanding, Replay}
 use Rattle.rules.specs.Names.flow
-use Rattle.rules.specs.Names.outstanding
-use Rattle.rules.specs.Names.provider
-use Rattle.rules.specs.Names.replay
-use Rattle.rules.specs.Names.answer
+use Rattle.rules.specs.Names.verdict
 use Rattle.rules.specs.Names.delivery
 use Rattle.rules.specs.Names.refusal
 use Rattle.rules.specs.State.{Sess, with_outstanding, with_replay, with_awaiting, with_provider, with_gaps}
@@ -22,21 +18,21 @@ abbrev with_session : Sess → World → World
 with_session s w = world s w.link w.queue
 
 -- ---- consuming the whole request on release
-abbrev wholly_at : MaybeOutstanding → Sess → Sess
-wholly_at outstanding.None s = s
-wholly_at (outstanding.Some o) s = consumed o.count (with_outstanding outstanding.None s)
+abbrev wholly_at : Option Outstanding → Sess → Sess
+wholly_at None s = s
+wholly_at (Some o) s = consumed o.count (with_outstanding None s)
 
 abbrev released_wholly : Sess → Sess
-released_wholly s = with_provider provider.None (with_awaiting false (with_replay replay.None (wholly_at s.outstanding s)))
+released_wholly s = with_provider None (with_awaiting false (with_replay None (wholly_at s.outstanding s)))
 
 -- 2 and 3 are asked for, 2 is replayed
 abbrev half_replayed : History
 half_replayed = run (fresh self flow.Recoverable small) (calls (binds 1) ∷ calls arrives_one ∷ drops_live ∷ drops_live ∷ calls (sequence 4) ∷ calls (header 2 2) ∷ calls arrives_one ∷ [])
 
 -- ---- skipping a discarded duplicate in the delivered count
-abbrev uncounted_at : MaybeReplay → Sess → Sess
-uncounted_at replay.None s = s
-uncounted_at (replay.Some r) s = with_gaps (received_in_overflow r.next s.gaps).gaps (with_replay (replay_after r) s)
+abbrev uncounted_at : Option Replay → Sess → Sess
+uncounted_at None s = s
+uncounted_at (Some r) s = with_gaps (received_in_overflow r.next s.gaps).gaps (with_replay (replay_after r) s)
 
 -- the held gap is 6 to 8, with 7 received; 6 is replayed, and 7 is the duplicate that comes next
 abbrev before_duplicate : History
@@ -59,7 +55,7 @@ pub record Slips : Type 0 where
   pub release_all :
       (half_replayed.accepted ≡ right 2 ∷ right 1 ∷ [])
       × (half_replayed.rejected ≡ [])
-      × ((released_wholly half_replayed.world.session).inbound_next ≡ seq.Some (num 4))
+      × ((released_wholly half_replayed.world.session).inbound_next ≡ Some (num 4))
       × ((released_wholly half_replayed.world.session).gaps.missing ≡ [])
   -- as it should be: 3 is still missing
   pub release_right : (call release_call half_replayed.world).world.session.gaps.missing ≡ range 3 4 ∷ []
@@ -71,11 +67,11 @@ pub record Slips : Type 0 where
   -- as it should be: 7 is discarded, 8 accepted, and nothing is missing
   pub duplicate_right :
       let w = call arrives_one before_duplicate.world in
-      (w.answer ≡ answer.Delivered delivery.Discard)
+      (w.answer ≡ Ok (verdict.Delivered delivery.Discard))
       × ((call arrives_one w.world).answer ≡ accept_replayed (num 8))
       × ((call arrives_one w.world).world.session.gaps.missing ≡ [])
   -- a message that the peer gave 2^64-1 is taken for 2; a peer that gives no message that number, as 11 has it of this side, is taken
   -- right all the same, and then demand 2 alone sees the slip
-  pub null_sequence : (call arrives_one after_one.world).answer ≡ accept_live (seq.Some (num 2))
+  pub null_sequence : (call arrives_one after_one.world).answer ≡ accept_live (Some (num 2))
   -- as it should be: the announcement is longer than a gap may be, and ends the binding
-  pub sequence_right : (call arrives_one (call (sequence 18446744073709551615) after_one.world).world).answer ≡ answer.Refused refusal.NotBound
+  pub sequence_right : (call arrives_one (call (sequence 18446744073709551615) after_one.world).world).answer ≡ Err refusal.NotBound

@@ -1,10 +1,9 @@
 -- Sessions whose lists have room, and steps that leave such a session and few outputs. That every session reached from new is such a one
 -- is in proofs/Tidy.
-use Rattle.std.specs.Prelude.{◌≡◌, List, true, ℕ, ◌≤◌, length}
+use Rattle.std.specs.Prelude.{◌≡◌, List, true, ℕ, ◌≤◌, length, Option, Some, None}
 use Rattle.types.specs.Flows.{is_sequenced}
 use Rattle.types.specs.Reasons.{reason_fits}
-use Rattle.rules.specs.Names.{MaybeSeq, FlowType, FixpConfig, Gap, MaybeGap}
-use Rattle.rules.specs.Names.gap
+use Rattle.rules.specs.Names.{SeqNum, FlowType, FixpConfig, Gap}
 use Rattle.rules.specs.State.{Lists, Sess, Did}
 use Rattle.rules.specs.Gaps.{max_gaps, max_runs}
 use Rattle.rules.specs.Local.{Refused, passes, refuses}
@@ -13,7 +12,7 @@ use Rattle.loss.specs.Good.{IsNumber, OnStay}
 use Rattle.loss.specs.Holding.{If}
 
 -- ---- a session whose lists have room
-pub record Tidy (c : FixpConfig) (p : FlowType) (x : MaybeSeq) (g : Lists) : Type 0 where
+pub record Tidy (c : FixpConfig) (p : FlowType) (x : Option SeqNum) (g : Lists) : Type 0 where
   pub config : config_fits c ≡ true
   pub few_gaps : length g.missing ≤ max_gaps
   pub few_runs : length g.overflow_received ≤ max_runs
@@ -41,9 +40,9 @@ abbrev pub Few : Lists → Type 0
 Few g = (length g.missing ≤ max_gaps) × (length g.overflow_received ≤ max_runs)
 
 -- there is a last gap where there is a gap
-abbrev pub HasLast : MaybeGap → List Gap → Type 0
-HasLast gap.None ms = length ms ≡ 0
-HasLast (gap.Some g) ms = 1 ≤ length ms
+abbrev pub HasLast : Option Gap → List Gap → Type 0
+HasLast None ms = length ms ≡ 0
+HasLast (Some g) ms = 1 ≤ length ms
 
 -- ---- every call
 pub record Snug (w : World) : Type 0 where

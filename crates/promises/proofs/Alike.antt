@@ -1,10 +1,11 @@
 -- Outcomes that a contract admits together are equal (01, "How much a contract has to say"): two records that stand for the same
 -- lists are answered alike, wherever in their rings the lists stand.
+use Rattle.std.specs.Prelude.{Ok, Err}
 use mathlib.Core.Path.{◌≡◌, refl, ap, sym, ◌∙◌}
 use mathlib.Core.Bool.{Bool, true, false}
 use mathlib.Core.List.{List, [], ◌∷◌}
 use Rattle.rules.specs.Names.{Link, Refusal, Output, Answer}
-use Rattle.rules.specs.Names.answer
+use Rattle.rules.specs.Names.verdict
 use Rattle.rules.specs.Names.refusal
 use Rattle.rules.specs.State.{Queue}
 use Rattle.rules.specs.Local.{Refused, passes, refuses}
@@ -114,8 +115,8 @@ closed_by true q = transport_closed q
 closed_by false q = q
 
 abbrev closed_answer : Bool → Answer
-closed_answer true = answer.Ok
-closed_answer false = answer.Refused refusal.BadRecord
+closed_answer true = Ok verdict.Done
+closed_answer false = Err refusal.BadRecord
 
 closed_is : (good : Bool) (r : Closed) (q : Outputs) → ClosedBy good r q → (queue_of r.queue ≡ closed_by good (queue_of q)) × (r.answer ≡ closed_answer good)
 closed_is true r q a = (a.queue.is, a.answer)

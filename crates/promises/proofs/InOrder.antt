@@ -1,8 +1,9 @@
 -- A record whose rings are in order is answered as the rule book answers the world that it stands for, whatever that world is, and stays in order.
+use Rattle.std.specs.Prelude.{Ok}
 use mathlib.Core.Path.{◌≡◌, refl, ap, sym, subst, ◌∙◌}
 use mathlib.Core.Bool.{Bool, true, false, false≢true}
 use Rattle.rules.specs.Names.{Link}
-use Rattle.rules.specs.Names.answer
+use Rattle.rules.specs.Names.verdict
 use Rattle.rules.specs.Names.refusal
 use Rattle.rules.specs.Local.{Refused, passes, refuses}
 use Rattle.rules.specs.Calls.{Call, bind_call, release_call, peer_call, application_call, send_call, terminate_call, retransmit_call, reject_call, end_call, timeout_call, World, wrong, does, ran_if, call, sound}
@@ -31,7 +32,7 @@ bad-first (timeout_call now stamp) w e = rw e
 module _ (s : Session) (l : Link) (q : Outputs) (sw : SessWf s) (qw : OutsWf q) where
   sound-good : sound (world_of s l q) ≡ true → good_record s l q ≡ true
   sound-good e =
-      let r : Called = record { session = s; link = l; queue = q; answer = answer.Ok } in
+      let r : Called = record { session = s; link = l; queue = q; answer = Ok verdict.Done } in
       done-is-good r (view_called r) (record { session = sw; queue = qw; is = refl }) e
 
   bad-unsound : good_record s l q ≡ false → sound (world_of s l q) ≡ false

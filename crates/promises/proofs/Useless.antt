@@ -1,4 +1,5 @@
 -- Ports that are of no use, and that no proof of the calls' contracts can be given for (01, "How much a contract has to say").
+use Rattle.std.specs.Prelude.{Option, Some, None, Ok, Err}
 use Prim.Native.Nat.{ℕ, ◌+◌, ◌-◌, ◌<◌}
 use native.Mathlib.Omega.{arith}
 use mathlib.Core.Path.{◌≡◌, refl, ap, sym, ◌∙◌}
@@ -10,22 +11,15 @@ use borrow.Author.Tests.{le-leb, lt-ltb}
 use Rattle.types.specs.Base.{deadline_at}
 use Rattle.types.specs.Reasons.{no_text, reason_fits}
 use Rattle.types.specs.States.{binding}
-use Rattle.rules.specs.Names.{SeqNum, SessionId, Nanotime, Instant, MaybeSeq, FlowType, FixpConfig, MaybeProvider, Link, Answer, Gap}
-use Rattle.rules.specs.Names.seq
+use Rattle.rules.specs.Names.{SeqNum, SessionId, Nanotime, Instant, FlowType, FixpConfig, Provider, Link, Answer, Gap}
 use Rattle.rules.specs.Names.flow
 use Rattle.rules.specs.Names.code
 use Rattle.rules.specs.Names.rejection
 use Rattle.rules.specs.Names.peer
 use Rattle.rules.specs.Names.policy
-use Rattle.rules.specs.Names.duration
 use Rattle.rules.specs.Names.state
-use Rattle.rules.specs.Names.linked
-use Rattle.rules.specs.Names.outstanding
-use Rattle.rules.specs.Names.replay
-use Rattle.rules.specs.Names.provider
-use Rattle.rules.specs.Names.finished
 use Rattle.rules.specs.Names.delivery
-use Rattle.rules.specs.Names.answer
+use Rattle.rules.specs.Names.verdict
 use Rattle.rules.specs.State.{queued, saying, answering, and_then}
 use Rattle.rules.specs.Outputs.{close_transport}
 use Rattle.rules.specs.Numbering.{accept_live, number_live, on_live, on_application}
@@ -38,7 +32,7 @@ use Rattle.rules.specs.Deadlines.{silence_deadline, stall_deadline, heartbeat_de
 use Rattle.rules.specs.Calls.{World, Ran, Call, bind_call, release_call, peer_call, application_call, send_call, terminate_call, retransmit_call, reject_call, end_call, timeout_call, unlinked, config_fits, sound, texts_fit, max_outs, opening, opened}
 use Rattle.rules.specs.Gaps.{max_gaps, max_runs}
 use Rattle.rings.specs.Ring.{ring_list}
-use Rattle.rings.specs.View.{no_gap, gap_list, run_list, sound_gaps}
+use Rattle.rings.specs.View.{no_gap, list_of, sound_gaps}
 use Rattle.rings.specs.declared.gaps.Gaps.{Gaps}
 use Rattle.queue.specs.View.{outs_of}
 use Rattle.queue.specs.declared.Outputs.{Outputs}
@@ -72,7 +66,7 @@ small =
       max_retransmit_count = 10;
       max_pending_gaps = 2;
       retransmit_timeout = 1000;
-      peer_silence_grace = duration.None;
+      peer_silence_grace = None;
       retransmit_stall_policy = policy.Terminate;
     }
 
@@ -83,7 +77,7 @@ no_gaps =
       overflow_received = record { slots = replicate 256 no_gap; head = 0; count = 0 };
     }
 
-abbrev serving : MaybeProvider → ℕ → Session
+abbrev serving : Option Provider → ℕ → Session
 serving v n =
     record {
       id = record { 0 = 1; 1 = 1 };
@@ -91,23 +85,23 @@ serving v n =
       remote_flow = flow.Recoverable;
       config = small;
       outbound_next = num 1;
-      inbound_next = record { it = seq.Some (num n) };
+      inbound_next = Some (num n);
       start_pending = false;
       gaps = no_gaps;
-      outstanding = record { it = outstanding.None };
-      replay = record { it = replay.None };
+      outstanding = None;
+      replay = None;
       awaiting_resume = false;
-      provider = record { it = v };
-      peer_finished = record { it = finished.None };
+      provider = v;
+      peer_finished = None;
       finalized = false;
     }
 
 abbrev expecting : ℕ → Session
-expecting n = serving provider.None n
+expecting n = serving None n
 
 -- bound at instant 0, with no reason
 abbrev bound : Link
-bound = record { binding = linked.Some (binding state.Established 1000 1000 at at true); reason = no_text }
+bound = record { binding = Some (binding state.Established 1000 1000 at at true); reason = no_text }
 
 abbrev empty : Outputs
 empty = record { slots = replicate 32 close_transport; head = 0; count = 0; closing = false }
@@ -115,7 +109,7 @@ empty = record { slots = replicate 32 close_transport; head = 0; count = 0; clos
 abbrev arrives : Call
 arrives = application_call at seven
 
-small-good : (v : MaybeProvider) (n : ℕ) → good_record (serving v n) bound empty ≡ true
+small-good : (v : Option Provider) (n : ℕ) → good_record (serving v n) bound empty ≡ true
 unfolding good_record config_fits sound_gaps outs_of ring_list no_text
 small-good v n = refl
 
@@ -125,13 +119,13 @@ met p m c s l q = answered-is c (p c s l q) s l q (m c s l q)
 
 -- the message numbered n leaves one that expects n + 1, and nothing else
 module _ (p : Port) (m : Meets p) where
-  numbers-one : view_called (p arrives (expecting 1) bound empty) ≡ record { world = world_of (expecting 2) bound empty; answer = accept_live (seq.Some (num 1)) }
-  unfolding sound config_fits gap_list run_list ring_list outs_of no_text on_application on_live number_live queued
-  numbers-one = met p m arrives (expecting 1) bound empty ∙ ap (λ (t : Bool). outcome t arrives (world_of (expecting 1) bound empty)) (small-good provider.None 1)
+  numbers-one : view_called (p arrives (expecting 1) bound empty) ≡ record { world = world_of (expecting 2) bound empty; answer = accept_live (Some (num 1)) }
+  unfolding sound config_fits list_of list_of ring_list outs_of no_text on_application on_live number_live queued
+  numbers-one = met p m arrives (expecting 1) bound empty ∙ ap (λ (t : Bool). outcome t arrives (world_of (expecting 1) bound empty)) (small-good None 1)
 
-  numbers-two : (p arrives (expecting 2) bound empty).answer ≡ accept_live (seq.Some (num 2))
-  unfolding sound config_fits gap_list run_list ring_list outs_of no_text on_application on_live number_live queued
-  numbers-two = ap (λ (r : Ran). r.answer) (met p m arrives (expecting 2) bound empty ∙ ap (λ (t : Bool). outcome t arrives (world_of (expecting 2) bound empty)) (small-good provider.None 2))
+  numbers-two : (p arrives (expecting 2) bound empty).answer ≡ accept_live (Some (num 2))
+  unfolding sound config_fits list_of list_of ring_list outs_of no_text on_application on_live number_live queued
+  numbers-two = ap (λ (r : Ran). r.answer) (met p m arrives (expecting 2) bound empty ∙ ap (λ (t : Bool). outcome t arrives (world_of (expecting 2) bound empty)) (small-good None 2))
 
 -- ---- what a done call leaves is a good record again, if its lists and reasons are within their room
 sound-parts : (a b c d e f : Bool) → a && b && c && d && e && f ≡ true → (a ≡ true) × (d ≡ true) × (f ≡ true)
@@ -165,7 +159,7 @@ pub data Kind : Type 0 where
   waits : Kind
 
 abbrev pub sample : Kind → Call
-sample binds = bind_call at seven 1000 1000 seq.None
+sample binds = bind_call at seven 1000 1000 None
 sample releases = release_call
 sample hears = peer_call at seven peer.MessageTemplate no_text
 sample receives = arrives
@@ -189,7 +183,7 @@ link_for ends = bound
 link_for waits = bound
 
 abbrev one : Session
-one = serving (provider.Some (record { request_timestamp = seven; from = num 1; count = 1; sent = 0 })) 1
+one = serving (Some (record { request_timestamp = seven; from = num 1; count = 1; sent = 0 })) 1
 
 one-good : (k : Kind) → good_record one (link_for k) empty ≡ true
 unfolding good_record config_fits sound_gaps outs_of ring_list no_text
@@ -205,7 +199,7 @@ one-good ends = refl
 one-good waits = refl
 
 not-refused : (k : Kind) → is_refused (outcome true (sample k) (world_of one (link_for k) empty)).answer ≡ false
-unfolding sound config_fits gap_list run_list ring_list outs_of no_text queued saying answering and_then bind on_established resume request_missing maybe_finish_receiving release_binding_state on_peer on_application on_live number_live send_refused send_application terminate_refused terminate retransmit_refused retransmit batch reject_refused reject_retransmit_request end_refused end_retransmission on_timeout established_timeout stall_if_due heartbeat_if_due heartbeat silence_deadline stall_deadline heartbeat_deadline deadline_at
+unfolding sound config_fits list_of list_of ring_list outs_of no_text queued saying answering and_then bind on_established resume request_missing maybe_finish_receiving release_binding_state on_peer on_application on_live number_live send_refused send_application terminate_refused terminate retransmit_refused retransmit batch reject_refused reject_retransmit_request end_refused end_retransmission on_timeout established_timeout stall_if_due heartbeat_if_due heartbeat silence_deadline stall_deadline heartbeat_deadline deadline_at
 not-refused binds = refl
 not-refused releases = refl
 not-refused hears = refl
@@ -223,7 +217,7 @@ RefusesKind k p = (s : Session) (l : Link) (q : Outputs) → is_refused (p (samp
 
 -- ---- one that always answers `accept:1`, be it only that it accepts under no other number
 abbrev AcceptsOne : Port → Type 0
-AcceptsOne p = (now : Instant) (stamp : Nanotime) (s : Session) (l : Link) (q : Outputs) (n : SeqNum) → (p (application_call now stamp) s l q).answer ≡ accept_live (seq.Some n) → n.0 ≡ 1
+AcceptsOne p = (now : Instant) (stamp : Nanotime) (s : Session) (l : Link) (q : Outputs) (n : SeqNum) → (p (application_call now stamp) s l q).answer ≡ accept_live (Some n) → n.0 ≡ 1
 
 -- ---- one that changes nothing, be it only the expected number at an application message
 abbrev ChangesNothing : Port → Type 0
@@ -256,19 +250,19 @@ missing_left r = missing_in r.world.session.gaps.missing
 abbrev Invents : (Ran → ℕ) → Port → Type 0
 Invents count p = (c : Call) × (s : Session) × (l : Link) × (q : Outputs) × (count (outcome (good_record s l q) c (world_of s l q)) < count (view_called (p c s l q)))
 
-abbrev number_of : MaybeSeq → ℕ
-number_of seq.None = 0
-number_of (seq.Some n) = n.0
+abbrev number_of : Option SeqNum → ℕ
+number_of None = 0
+number_of (Some n) = n.0
 
 abbrev accepted_as : Answer → ℕ
-accepted_as answer.Ok = 0
-accepted_as (answer.Delivered (delivery.Accept n retransmitted)) = number_of n
-accepted_as (answer.Delivered delivery.Discard) = 0
-accepted_as (answer.Sent n) = 0
-accepted_as (answer.Batch b) = 0
-accepted_as (answer.Refused x) = 0
+accepted_as (Ok verdict.Done) = 0
+accepted_as (Ok (verdict.Delivered (delivery.Accept n retransmitted))) = number_of n
+accepted_as (Ok (verdict.Delivered delivery.Discard)) = 0
+accepted_as (Ok (verdict.Sent n)) = 0
+accepted_as (Ok (verdict.Batch b)) = 0
+accepted_as (Err x) = 0
 
-one-is-not-two : accept_live (seq.Some (num 1)) ≡ accept_live (seq.Some (num 2)) → ⊥
+one-is-not-two : accept_live (Some (num 1)) ≡ accept_live (Some (num 2)) → ⊥
 one-is-not-two e = let z : ◌≡◌ {A = ℕ} 1 2 = ap accepted_as e in omega (arith, z)
 
 module _ (p : Port) (m : Meets p) where
@@ -287,7 +281,7 @@ module _ (p : Port) (m : Meets p) where
 
   pub expecting-the-same-is-ruled-out : KeepsExpecting p → ⊥
   expecting-the-same-is-ruled-out u =
-      let e : seq.Some (num 1) ≡ seq.Some (num 2) = sym (u at seven (expecting 1) bound empty) ∙ ap (λ (r : Ran). r.world.session.inbound_next) (numbers-one p m) in
+      let e : Some (num 1) ≡ Some (num 2) = sym (u at seven (expecting 1) bound empty) ∙ ap (λ (r : Ran). r.world.session.inbound_next) (numbers-one p m) in
       let z : ◌≡◌ {A = ℕ} 1 2 = ap number_of e in
       omega (arith, z)
 
@@ -295,12 +289,12 @@ module _ (p : Port) (m : Meets p) where
   changing-nothing-is-ruled-out u = expecting-the-same-is-ruled-out (λ now stamp s l q. ap (λ (w : World). w.session.inbound_next) (u (application_call now stamp) s l q))
 
   -- the record that the first message left is good, and expects 2
-  second : (again p arrives (p arrives (expecting 1) bound empty)).answer ≡ accept_live (seq.Some (num 2))
-  unfolding sound config_fits gap_list run_list ring_list outs_of no_text on_application on_live number_live queued
+  second : (again p arrives (p arrives (expecting 1) bound empty)).answer ≡ accept_live (Some (num 2))
+  unfolding sound config_fits list_of list_of ring_list outs_of no_text on_application on_live number_live queued
   second =
       let r = p arrives (expecting 1) bound empty in
       let n = numbers-one p m in
-      let d : Done r (record { world = world_of (expecting 2) bound empty; answer = accept_live (seq.Some (num 1)) }) = rw (small-good provider.None 1) at (m arrives (expecting 1) bound empty) in
+      let d : Done r (record { world = world_of (expecting 2) bound empty; answer = accept_live (Some (num 1)) }) = rw (small-good None 1) at (m arrives (expecting 1) bound empty) in
       let g : good_record r.session r.link r.queue ≡ true = done-is-good r _ d refl in
       ap (λ (x : Ran). x.answer) (met p m arrives r.session r.link r.queue ∙ (λ i. outcome (g i) arrives (n i).world))
 

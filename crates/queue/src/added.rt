@@ -7,7 +7,6 @@ ghost use Rattle.rules.specs.Names.quote as quoting;
 ghost use Rattle.rules.specs.Calls.{room_for_call};
 ghost use Rattle.queue.specs.Added.{lines_of, Pushed};
 
-use types::ids::MaybeSeq;
 use types::messages::{MessageName, NotApplied, SessionMessage};
 use types::output::{Event, Line, Quote, Said};
 
@@ -76,7 +75,7 @@ impl Added {
         self.push(Said::Send(message), 0, quote)
     }
 
-    pub fn send_application(self, seq: MaybeSeq, message: NotApplied) -> Added
+    pub fn send_application(self, seq: Option<SeqNum>, message: NotApplied) -> Added
         requires { self.count + 1 ≤ room_for_call }
         ensures { Pushed result self (line (says.SendApplication seq message) 0 quoting.None) }
     {

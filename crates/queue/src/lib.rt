@@ -12,7 +12,6 @@ ghost use Rattle.types.specs.Reasons.{no_text};
 ghost use Rattle.queue.specs.View.{queue_of, OutsWf, QueueIs, empty_queue, PolledIs, sound_outs, room_of, takes, Filled};
 
 use crate::added::{Added, ROOM_FOR_CALL};
-use types::ids::MaybeSeq;
 use types::messages::{MessageName, NotApplied, SessionMessage};
 use types::output::{Event, Output, Said};
 use types::reasons::Reason;
@@ -206,7 +205,7 @@ impl Outputs {
         })
     }
 
-    pub fn send_application(self, seq: MaybeSeq, message: NotApplied) -> Outputs
+    pub fn send_application(self, seq: Option<SeqNum>, message: NotApplied) -> Outputs
         requires outs_wf { OutsWf self }
         requires self_len_bound { length (queue_of self).outs < 32 }
         ensures { QueueIs result (queued (queue_of self) (output (said.SendApplication seq message) 0 no_text ∷ [])) }

@@ -1,7 +1,7 @@
 -- What the reading calls promise: the value or the queue that the rule book says, or the refusal of a bad record.
-use Rattle.std.specs.Prelude.{◌≡◌, Bool, true, false, List, [], ◌∷◌}
-use Rattle.rules.specs.Names.{SessionId, FlowType, MaybeSeq, MaybeInstant, SessionStatus, Output}
-use Rattle.rules.specs.Names.answer
+use Rattle.std.specs.Prelude.{◌≡◌, Bool, true, false, List, [], ◌∷◌, Option, Ok, Err}
+use Rattle.rules.specs.Names.{SessionId, FlowType, SeqNum, Instant, SessionStatus, Output}
+use Rattle.rules.specs.Names.verdict
 use Rattle.rules.specs.Names.refusal
 use Rattle.rules.specs.Outputs.{close_transport}
 use Rattle.rules.specs.Calls.{polled, transport_closed}
@@ -50,11 +50,11 @@ PolledBy false r q = r ≡ untaken (poll.Refused refusal.BadRecord) q
 -- ---- the transport closed
 pub record ClosedOf (r : Closed) (q : Outputs) : Type 0 where
   pub queue : QueueIs r.queue (transport_closed (queue_of q))
-  pub answer : r.answer ≡ answer.Ok
+  pub answer : r.answer ≡ Ok verdict.Done
 
 -- the queue exactly as before
 abbrev pub unclosed : Outputs → Closed
-unclosed q = record { queue = q; answer = answer.Refused refusal.BadRecord }
+unclosed q = record { queue = q; answer = Err refusal.BadRecord }
 
 abbrev pub ClosedBy : Bool → Closed → Outputs → Type 0
 ClosedBy true r q = ClosedOf r q
@@ -69,7 +69,7 @@ abbrev pub flow_if : Bool → FlowType → FlowAnswer
 flow_if true x = flows.Is x
 flow_if false x = flows.Refused refusal.BadRecord
 
-abbrev pub seq_if : Bool → MaybeSeq → SeqAnswer
+abbrev pub seq_if : Bool → Option SeqNum → SeqAnswer
 seq_if true x = seqs.Is x
 seq_if false x = seqs.Refused refusal.BadRecord
 
@@ -81,6 +81,6 @@ abbrev pub status_if : Bool → SessionStatus → StatusAnswer
 status_if true x = statuses.Is x
 status_if false x = statuses.Refused refusal.BadRecord
 
-abbrev pub deadline_if : Bool → MaybeInstant → DeadlineAnswer
+abbrev pub deadline_if : Bool → Option Instant → DeadlineAnswer
 deadline_if true x = deadlines.Is x
 deadline_if false x = deadlines.Refused refusal.BadRecord

@@ -14,8 +14,8 @@ use calls::is_good;
 use queue::Outputs;
 use session::Session;
 use types::answers::{Answer, Refusal, SessionStatus};
-use types::binding::{Link, MaybeBinding};
-use types::ids::{FlowType, MaybeInstant, MaybeSeq, SessionId};
+use types::binding::{Link, Binding};
+use types::ids::{FlowType, Instant, SeqNum, SessionId};
 use types::output::{Output, Said};
 use types::reasons::Reason;
 
@@ -56,7 +56,7 @@ pub enum FlowAnswer {
 
 #[derive(Clone, Copy)]
 pub enum SeqAnswer {
-    Is(MaybeSeq),
+    Is(Option<SeqNum>),
     Refused(Refusal),
 }
 
@@ -74,7 +74,7 @@ pub enum StatusAnswer {
 
 #[derive(Clone, Copy)]
 pub enum DeadlineAnswer {
-    Is(MaybeInstant),
+    Is(Option<Instant>),
     Refused(Refusal),
 }
 
@@ -127,13 +127,13 @@ pub fn transport_closed(session: Session, link: Link, queue: Outputs) -> Closed
     if !is_good(session, link, queue) {
         return Closed {
             queue,
-            answer: Answer::Refused(Refusal::BadRecord),
+            answer: Err(Refusal::BadRecord),
         };
     }
     let closed = queue.transport_closed();
     Closed {
         queue: closed,
-        answer: Answer::Ok,
+        answer: Ok(Verdict::Done),
     }
 }
 
@@ -144,9 +144,8 @@ pub fn next_deadline(session: Session, link: Link, queue: Outputs) -> DeadlineAn
     if !is_good(session, link, queue) {
         return DeadlineAnswer::Refused(Refusal::BadRecord);
     }
-    let it = link.binding;
-    let MaybeBinding::Some(binding) = it else {
-        return DeadlineAnswer::Is(MaybeInstant::None);
+    let Some(binding) = link.binding else {
+        return DeadlineAnswer::Is(None);
     };
     DeadlineAnswer::Is(session.next_deadline(binding))
 }
@@ -158,8 +157,7 @@ pub fn status(session: Session, link: Link, queue: Outputs) -> StatusAnswer
     if !is_good(session, link, queue) {
         return StatusAnswer::Refused(Refusal::BadRecord);
     }
-    let it = link.binding;
-    let MaybeBinding::Some(binding) = it else {
+    let Some(binding) = link.binding else {
         return StatusAnswer::Is(SessionStatus::Unbound);
     };
     StatusAnswer::Is(binding.status())
@@ -245,7 +243,7 @@ pub fn is_finalized(session: Session, link: Link, queue: Outputs) -> TruthAnswer
 }
 
 /// Whether a NextSeqNo of the peer would move its flow backwards.
-pub fn regresses(session: Session, link: Link, queue: Outputs, next: MaybeSeq) -> TruthAnswer
+pub fn regresses(session: Session, link: Link, queue: Outputs, next: Option<SeqNum>) -> TruthAnswer
     ensures { result ≡ truth_if (good_record session link queue) (Rattle.rules.specs.Queries.regresses next (view session)) }
 {
     if !is_good(session, link, queue) {

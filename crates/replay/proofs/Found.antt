@@ -1,10 +1,10 @@
 -- What was found of an entry is what the record is, where the record is bound and good.
+use Rattle.std.specs.Prelude.{Some}
 use Prim.Native.Nat.{◌<◌}
 use mathlib.Core.Path.{◌≡◌, subst}
 use mathlib.Core.Bool.{true}
 use Rattle.types.specs.Base.{all_ones}
 use Rattle.rules.specs.Names.{SeqNum, Binding, Link, PeerMessage}
-use Rattle.rules.specs.Names.linked
 use Rattle.types.specs.Reasons.{reason_fits}
 use Rattle.fast.specs.Quick.{ready_record}
 use Rattle.queue.specs.declared.Outputs.{Outputs}
@@ -16,7 +16,7 @@ use Rattle.replay.specs.Ordinary.{LiveIf, SameIf, SentIf, QuickIs}
 use Rattle.replay.specs.declared.ordinary.Quick.{Quick}
 use Rattle.replay.specs.declared.ordinary.Quick.TheVariants as quick
 
-module _ (r : Record) (s : Session) (l : Link) (q : Outputs) (b : Binding) (bound : l.binding ≡ linked.Some b) (ready : ready_record s l.reason q ≡ true) (fits : reason_fits r.reason ≡ true) where
+module _ (r : Record) (s : Session) (l : Link) (q : Outputs) (b : Binding) (bound : l.binding ≡ Some b) (ready : ready_record s l.reason q ≡ true) (fits : reason_fits r.reason ≡ true) where
   pub found-live : (x : Quick) → r.entry ≡ entry.Application → LiveIf x (view s) b → QuickIs x r s l q
   found-live (quick.Live n) e h = (e, record { binding = b; bound = bound; ready = ready; fits = fits; does = h })
   found-live quick.Same e h = absurd h

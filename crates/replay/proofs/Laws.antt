@@ -1,4 +1,5 @@
 -- Laws of the missing figure: a sum taken one gap at a time.
+use Rattle.std.specs.Prelude.{Some, None}
 use Prim.Native.Nat.{ℕ, ◌+◌, ◌-◌, ◌<◌, ◌≤◌}
 use mathlib.Core.Path.{◌≡◌, ap, sym, ◌∙◌}
 use mathlib.Core.List.{List}
@@ -7,7 +8,6 @@ use native.Mathlib.Decide.{dec_lt}
 use borrow.Author.Tests.{le-leb, lt-leb}
 use Rattle.types.specs.Base.{all_ones}
 use Rattle.rules.specs.Names.{Gap}
-use Rattle.rules.specs.Names.gap
 use Rattle.rules.specs.Lists.{rest, front_of}
 use Rattle.rings.proofs.GapLaws.{front-some, front-none}
 use Rattle.replay.specs.Missing.{gap_lengths, at_most}
@@ -42,8 +42,8 @@ at-most-then a b = go (dec_lt all_ones a)
     go (yes h) = rw (at-most-high a h) (over (all_ones + b) (omega arith) ∙ sym (at-most-high (a + b) (omega arith)))
     go (no h) = rw (at-most-low a (omega arith))
 
-pub lengths-front : (l : List Gap) (g : Gap) → front_of l ≡ gap.Some g → gap_lengths l ≡ (g.end.0 - g.from.0) + gap_lengths (rest l)
+pub lengths-front : (l : List Gap) (g : Gap) → front_of l ≡ Some g → gap_lengths l ≡ (g.end.0 - g.from.0) + gap_lengths (rest l)
 lengths-front l g e = ap gap_lengths (front-some l g e)
 
-pub lengths_none : (l : List Gap) → front_of l ≡ gap.None → gap_lengths l ≡ 0
+pub lengths_none : (l : List Gap) → front_of l ≡ None → gap_lengths l ≡ 0
 lengths_none l e = ap gap_lengths (front-none l e)

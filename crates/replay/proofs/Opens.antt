@@ -1,5 +1,5 @@
 -- Laws of a trace's beginning: its first record is an open, which is refused or begins the run.
-use Rattle.std.specs.Prelude.{if◌then◌else◌}
+use Rattle.std.specs.Prelude.{if◌then◌else◌, None}
 use Prim.Native.Nat.{ℕ, ◌+◌, ◌-◌, ◌<◌, ◌≤◌}
 use mathlib.Core.Path.{◌≡◌, refl, ap, sym, ◌∙◌}
 use mathlib.Core.Bool.{true, false, false≢true, true≢false}
@@ -11,7 +11,6 @@ use lib.ListN.{length, take, drop}
 use lib.Dec.{ltb}
 use Rattle.types.specs.States.{link_status}
 use Rattle.rules.specs.Names.{SessionId, FlowType, FixpConfig}
-use Rattle.rules.specs.Names.seq
 use Rattle.rules.specs.Names.status
 use Rattle.rules.specs.Queries.{next_inbound_seq}
 use Rattle.rules.specs.Local.{Refused, passes, refuses}
@@ -60,12 +59,12 @@ lines-without s start h = go (dec_lt start (length s))
         rw (le-ltb start (length s) m, records-none (length s - 1) s start m)
 
 -- the open's line, and what stands behind it: refused, and not
-pub open-refused : {i : SessionId} {l r : FlowType} {g : FixpConfig} (x : Entry) → x ≡ entry.Open i l r g → (d : Called) (rest : List Record) → Done d (opened_as (opening g) (opened i l r) g) → is_refused d.answer ≡ true → line_text 0 d.answer status.Unbound seq.None 0 0 ++ lines_without rest ≡ lines_open x rest
+pub open-refused : {i : SessionId} {l r : FlowType} {g : FixpConfig} (x : Entry) → x ≡ entry.Open i l r g → (d : Called) (rest : List Record) → Done d (opened_as (opening g) (opened i l r) g) → is_refused d.answer ≡ true → line_text 0 d.answer status.Unbound None 0 0 ++ lines_without rest ≡ lines_open x rest
 open-refused {i} {l} {r} {g} x e d rest h y = go (opening g) h ∙ ap (λ (u : Entry). lines_open u rest) (sym e)
   where
-    go : (f : Refused) → Done d (opened_as f (opened i l r) g) → line_text 0 d.answer status.Unbound seq.None 0 0 ++ lines_without rest ≡ lines_opened f (opened i l r g) rest
+    go : (f : Refused) → Done d (opened_as f (opened i l r) g) → line_text 0 d.answer status.Unbound None 0 0 ++ lines_without rest ≡ lines_opened f (opened i l r g) rest
     go passes h = absurd (true≢false (sym y ∙ ap (λ (x : Ran). is_refused x.answer) h.is))
-    go (refuses x) h = ap (λ (x : Ran). line_text 0 x.answer status.Unbound seq.None 0 0 ++ lines_without rest) h.is
+    go (refuses x) h = ap (λ (x : Ran). line_text 0 x.answer status.Unbound None 0 0 ++ lines_without rest) h.is
 
 pub open-passed : {i : SessionId} {l r : FlowType} {g : FixpConfig} (x : Entry) → x ≡ entry.Open i l r g → (d : Called) (rest : List Record) → Done d (opened_as (opening g) (opened i l r) g) → is_refused d.answer ≡ false → line_text 0 d.answer (link_status d.link.binding) (next_inbound_seq (view d.session)) (length (view d.session).gaps.missing) 0 ++ lines_from 1 (world_of d.session d.link d.queue) rest ≡ lines_open x rest
 open-passed {i} {l} {r} {g} x e d rest h n = go (opening g) h ∙ ap (λ (u : Entry). lines_open u rest) (sym e)

@@ -13,7 +13,7 @@ use Rattle.rules.specs.Names.{SessionId, FlowType, FixpConfig, Link, Answer, Out
 use Rattle.rules.specs.Queries.{next_inbound_seq}
 use Rattle.rules.specs.Calls.{World, Ran, call}
 use Rattle.rings.specs.Ring.{ring_list}
-use Rattle.rings.specs.View.{gap_list, sound_gaps, GapsWf}
+use Rattle.rings.specs.View.{list_of, sound_gaps, GapsWf}
 use Rattle.rings.specs.declared.gaps.Gaps.{Gaps}
 use Rattle.queue.specs.View.{queue_of, outs_of, OutsWf}
 use Rattle.queue.specs.declared.Outputs.{Outputs}
@@ -114,7 +114,7 @@ unfolding sound_gaps
 sound-in-order g wf = rw (lt-ltb _ _ wf.missing.head_in, le-leb _ _ wf.missing.count_in, lt-ltb _ _ wf.overflow_received.head_in, le-leb _ _ wf.overflow_received.count_in)
 
 -- of a session in order, its gaps' own figure
-pub sound-missing : (s : Session) → SessWf s → (if sound_gaps s.gaps then missing_figure (gap_list s.gaps.missing) else 0) ≡ missing_figure (view s).gaps.missing
+pub sound-missing : (s : Session) → SessWf s → (if sound_gaps s.gaps then missing_figure (list_of s.gaps.missing) else 0) ≡ missing_figure (view s).gaps.missing
 sound-missing s wf = rw (sound-in-order s.gaps wf.gaps)
 
 -- ---- how the lines go on

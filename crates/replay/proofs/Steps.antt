@@ -1,4 +1,5 @@
 -- An ordinary record: the few fields that are stored are what the rule book's call leaves.
+use Rattle.std.specs.Prelude.{Some, Ok}
 use mathlib.Core.Path.{◌≡◌, refl, ap, sym, subst, ◌∙◌}
 use mathlib.Core.Bool.{Bool, true, false, ◌&&◌, ◌||◌}
 use mathlib.Core.List.{List, []}
@@ -8,13 +9,10 @@ use lib.ListN.{length}
 use lib.Dec.{leb, ltb, eqb}
 use Rattle.types.specs.States.{with_received, with_keepalive}
 use Rattle.types.specs.Reasons.{reason_fits}
-use Rattle.types.specs.declared.parts.SeqSlot.{SeqSlot}
 use Rattle.rules.specs.Names.{SeqNum, Nanotime, Instant, Reason, Link, Answer, Binding, Output, PeerMessage}
-use Rattle.rules.specs.Names.seq
 use Rattle.rules.specs.Names.peer
 use Rattle.rules.specs.Names.bound
-use Rattle.rules.specs.Names.linked
-use Rattle.rules.specs.Names.answer
+use Rattle.rules.specs.Names.verdict
 use Rattle.rules.specs.State.{queued, closes, did, with_outbound}
 use Rattle.rules.specs.Numbering.{next, accept_live, on_application}
 use Rattle.rules.specs.Peer.{on_peer}
@@ -90,7 +88,7 @@ module _ (s : Session) (l : Link) (q : Outputs) (e : ready_record s l.reason q �
     unfolding call
     called r c asked passed done = ap (λ (x : Call). call x (world_of s l q)) asked ∙ (λ i. ran_if (passed i) (done i) (world_of s l q))
 
-    kept : closes o ≡ false → world_of s' (record { binding = linked.Some b'; reason = l.reason }) q ≡ emptied after.world
+    kept : closes o ≡ false → world_of s' (record { binding = Some b'; reason = l.reason }) q ≡ emptied after.world
     unfolding queued
     kept quiet = rw (ready-outs, quiet, or-false q.closing)
 
@@ -98,7 +96,7 @@ module _ (s : Session) (l : Link) (q : Outputs) (e : ready_record s l.reason q �
     unfolding queued
     added = rw (ready-outs)
 
-    pub ordinary-steps : (r : Record) (c : Call) → asks r ≡ c → SessWf s' → closes o ≡ false → wrong c (world_of s l q) ≡ passes → does c (world_of s l q) ≡ after → Stepped r (world_of s l q) s' (record { binding = linked.Some b'; reason = l.reason }) q a (length o)
+    pub ordinary-steps : (r : Record) (c : Call) → asks r ≡ c → SessWf s' → closes o ≡ false → wrong c (world_of s l q) ≡ passes → does c (world_of s l q) ≡ after → Stepped r (world_of s l q) s' (record { binding = Some b'; reason = l.reason }) q a (length o)
     ordinary-steps r c asked wf quiet passed done =
         let ran = called r c asked passed done in
         record {
@@ -110,7 +108,7 @@ module _ (s : Session) (l : Link) (q : Outputs) (e : ready_record s l.reason q �
         }
 
   -- the three calls, bound
-  module _ (b : Binding) (bound : l.binding ≡ linked.Some b) where
+  module _ (b : Binding) (bound : l.binding ≡ Some b) where
     pub application-passes : (now : Instant) (stamp : Nanotime) → wrong (application_call now stamp) (world_of s l q) ≡ passes
     application-passes now stamp = rw (ready-sound, bound, ready-room)
 
@@ -142,13 +140,13 @@ stored outbound inbound start awaiting s =
     }
 
 module _ (r : Record) (s : Session) (l : Link) (q : Outputs) where
-  pub live-steps : (n : SeqNum) → QuickIs (quick.Live n) r s l q → Stepped r (world_of s l q) (stored s.outbound_next (record { it = seq.Some (next n) }) false s.awaiting_resume s) (link_heard r.now l) q (accept_live (seq.Some n)) 0
+  pub live-steps : (n : SeqNum) → QuickIs (quick.Live n) r s l q → Stepped r (world_of s l q) (stored s.outbound_next (Some (next n)) false s.awaiting_resume s) (link_heard r.now l) q (accept_live (Some n)) 0
   live-steps n h =
       let t = h.1 in
       let wf = ready-session s l q t.ready in
-      let s' = stored s.outbound_next (record { it = seq.Some (next n) }) false s.awaiting_resume s in
-      subst (λ (x : Link). Stepped r (world_of s l q) s' x q (accept_live (seq.Some n)) 0) (then-bound (with_received r.now) l t.binding t.bound)
-      (ordinary-steps s l q t.ready s' (with_received r.now t.binding) [] (accept_live (seq.Some n)) r (application_call r.now r.stamp)
+      let s' = stored s.outbound_next (Some (next n)) false s.awaiting_resume s in
+      subst (λ (x : Link). Stepped r (world_of s l q) s' x q (accept_live (Some n)) 0) (then-bound (with_received r.now) l t.binding t.bound)
+      (ordinary-steps s l q t.ready s' (with_received r.now t.binding) [] (accept_live (Some n)) r (application_call r.now r.stamp)
       (ap (λ (x : Entry). call_of x r.now r.stamp r.reason) h.0)
       (record { gaps = wf.gaps; pending = wf.pending })
       refl
@@ -156,13 +154,13 @@ module _ (r : Record) (s : Session) (l : Link) (q : Outputs) where
       (within-bound (world_of s l q) l.binding t.binding (on_application r.now r.stamp (view s)) l.reason t.bound
       ∙ ap (ran_as (queue_of q) l.reason) (t.does.does r.now r.stamp)))
 
-  pub same-steps : QuickIs quick.Same r s l q → Stepped r (world_of s l q) (stored s.outbound_next s.inbound_next s.start_pending false s) (link_heard r.now l) q answer.Ok 0
+  pub same-steps : QuickIs quick.Same r s l q → Stepped r (world_of s l q) (stored s.outbound_next s.inbound_next s.start_pending false s) (link_heard r.now l) q (Ok verdict.Done) 0
   same-steps t =
       let wf = ready-session s l q t.ready in
       let s' = stored s.outbound_next s.inbound_next s.start_pending false s in
       let m = peer.Sequence (record { next_seq_no = t.does.same.next }) in
-      subst (λ (x : Link). Stepped r (world_of s l q) s' x q answer.Ok 0) (then-bound (with_received r.now) l t.binding t.bound)
-      (ordinary-steps s l q t.ready s' (with_received r.now t.binding) [] answer.Ok r (peer_call r.now r.stamp m r.reason)
+      subst (λ (x : Link). Stepped r (world_of s l q) s' x q (Ok verdict.Done) 0) (then-bound (with_received r.now) l t.binding t.bound)
+      (ordinary-steps s l q t.ready s' (with_received r.now t.binding) [] (Ok verdict.Done) r (peer_call r.now r.stamp m r.reason)
       (ap (λ (x : Entry). call_of x r.now r.stamp r.reason) (t.does.entered ∙ ap entry.Peer t.does.same.is))
       (record { gaps = wf.gaps; pending = wf.pending })
       refl
@@ -170,18 +168,18 @@ module _ (r : Record) (s : Session) (l : Link) (q : Outputs) where
       (within-bound (world_of s l q) l.binding t.binding (on_peer m r.now r.stamp l.reason r.reason (view s)) l.reason t.bound
       ∙ ap (ran_as (queue_of q) l.reason) (t.does.same.does r.now r.stamp l.reason r.reason)))
 
-  pub sent-steps : (n : SeqNum) → QuickIs (quick.Sent n) r s l q → Stepped r (world_of s l q) (stored (next n) s.inbound_next s.start_pending s.awaiting_resume s) (link_kept_alive r.now l) q (answer.Sent (seq.Some n)) 0
+  pub sent-steps : (n : SeqNum) → QuickIs (quick.Sent n) r s l q → Stepped r (world_of s l q) (stored (next n) s.inbound_next s.start_pending s.awaiting_resume s) (link_kept_alive r.now l) q (Ok (verdict.Sent (Some n))) 0
   sent-steps n h =
       let t = h.1 in
       let wf = ready-session s l q t.ready in
       let s' = stored (next n) s.inbound_next s.start_pending s.awaiting_resume s in
       let d = t.does.does in
-      subst (λ (x : Link). Stepped r (world_of s l q) s' x q (answer.Sent (seq.Some n)) 0) (then-bound (with_keepalive r.now) l t.binding t.bound)
-      (ordinary-steps s l q t.ready s' (with_keepalive r.now t.binding) [] (answer.Sent (seq.Some n)) r (send_call r.now)
+      subst (λ (x : Link). Stepped r (world_of s l q) s' x q (Ok (verdict.Sent (Some n))) 0) (then-bound (with_keepalive r.now) l t.binding t.bound)
+      (ordinary-steps s l q t.ready s' (with_keepalive r.now t.binding) [] (Ok (verdict.Sent (Some n))) r (send_call r.now)
       (ap (λ (x : Entry). call_of x r.now r.stamp r.reason) h.0)
       (record { gaps = wf.gaps; pending = wf.pending })
       refl
       (send-passes s l q t.ready t.binding t.bound r.now d.passed)
       (within-bound (world_of s l q) l.binding t.binding (send_application r.now (view s)) l.reason t.bound
       ∙ ap (ran_as (queue_of q) l.reason) (d.does r.now
-      ∙ ap (λ (x : SeqNum). did (with_outbound (next x) (view s)) (with_keepalive r.now t.binding) [] bound.Stay (answer.Sent (seq.Some x))) (sym t.does.number))))
+      ∙ ap (λ (x : SeqNum). did (with_outbound (next x) (view s)) (with_keepalive r.now t.binding) [] bound.Stay (Ok (verdict.Sent (Some x)))) (sym t.does.number))))

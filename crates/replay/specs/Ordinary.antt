@@ -1,11 +1,9 @@
 -- What it means that a record is an ordinary one: the rule book's step for it, and that no refusal comes before.
-use Rattle.std.specs.Prelude.{◌<◌, ◌≡◌, true}
+use Rattle.std.specs.Prelude.{◌<◌, ◌≡◌, true, Option, Some, None}
 use Rattle.types.specs.Base.{all_ones}
 use Rattle.types.specs.States.{with_received, with_keepalive}
-use Rattle.rules.specs.Names.{SeqNum, Instant, Binding, MaybeBinding, Link, PeerMessage}
-use Rattle.rules.specs.Names.seq
+use Rattle.rules.specs.Names.{SeqNum, Instant, Binding, Link, PeerMessage}
 use Rattle.rules.specs.Names.peer
-use Rattle.rules.specs.Names.linked
 use Rattle.rules.specs.State.{Sess}
 use Rattle.fast.specs.Quick.{ready_record, Live, Same, Sending}
 use Rattle.types.specs.Reasons.{reason_fits}
@@ -20,7 +18,7 @@ use Rattle.replay.specs.declared.ordinary.Quick.TheVariants as quick
 -- a live message takes the number n, below the last one
 pub record LiveAs (n : SeqNum) (s : Sess) (b : Binding) : Type 0 where
   pub below : n.0 < all_ones
-  pub does : Live (seq.Some n) s b
+  pub does : Live (Some n) s b
 
 -- a message is sent under the number n, below the last one
 pub record SentAs (n : SeqNum) (s : Sess) (b : Binding) : Type 0 where
@@ -56,7 +54,7 @@ SentIf quick.No s b = Unit {0}
 -- the record is bound and good, its queue is empty, and the message's reason fits: refusals 1, 3, 5 and 7 do not come
 pub record Standing (r : Record) (s : Session) (l : Link) (q : Outputs) (P : Binding → Type 0) : Type 0 where
   pub binding : Binding
-  pub bound : l.binding ≡ linked.Some binding
+  pub bound : l.binding ≡ Some binding
   pub ready : ready_record s l.reason q ≡ true
   pub fits : reason_fits r.reason ≡ true
   pub does : P binding
@@ -73,9 +71,9 @@ QuickIs (quick.Sent n) r s l q = (r.entry ≡ entry.Send) × Standing r s l q (S
 QuickIs quick.No r s l q = Unit {0}
 
 -- ---- what an ordinary record leaves of the binding
-abbrev pub binding_then : (Binding → Binding) → MaybeBinding → MaybeBinding
-binding_then f linked.None = linked.None
-binding_then f (linked.Some b) = linked.Some (f b)
+abbrev pub binding_then : (Binding → Binding) → Option Binding → Option Binding
+binding_then f None = None
+binding_then f (Some b) = Some (f b)
 
 abbrev pub link_then : (Binding → Binding) → Link → Link
 link_then f l = record { binding = binding_then f l.binding; reason = l.reason }

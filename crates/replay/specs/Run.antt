@@ -1,9 +1,8 @@
 -- What the trace program prints: the rule book's calls over the records of its input, a line for each (01, "Trace program").
-use Rattle.std.specs.Prelude.{ℕ, zero, suc, ◌+◌, ◌≤◌, ◌≡◌, Bool, true, false, List, [], ◌∷◌, ◌++◌, length, take, drop, leb, ltb, if◌then◌else◌}
+use Rattle.std.specs.Prelude.{ℕ, zero, suc, ◌+◌, ◌≤◌, ◌≡◌, Bool, true, false, List, [], ◌∷◌, ◌++◌, length, take, drop, leb, ltb, if◌then◌else◌, None, Ok, Err}
 use Rattle.types.specs.States.{link_status}
-use Rattle.rules.specs.Names.seq
 use Rattle.rules.specs.Names.status
-use Rattle.rules.specs.Names.answer
+use Rattle.rules.specs.Names.verdict
 use Rattle.rules.specs.Queries.{next_inbound_seq}
 use Rattle.rules.specs.Local.{Refused, passes, refuses}
 use Rattle.rules.specs.Calls.{World, world, Call, Ran, call, opening, opened}
@@ -75,8 +74,8 @@ lines_without (r ∷ l) = stop_text 1
 
 -- "A refused open prints `refused:2 unbound - 0 0`"
 abbrev pub lines_opened : Refused → World → List Record → List ℕ
-lines_opened passes w l = line_after 0 (record { world = w; answer = answer.Ok }) ++ lines_from 1 w l
-lines_opened (refuses x) w l = line_text 0 (answer.Refused x) status.Unbound seq.None 0 0 ++ lines_without l
+lines_opened passes w l = line_after 0 (record { world = w; answer = Ok verdict.Done }) ++ lines_from 1 w l
+lines_opened (refuses x) w l = line_text 0 (Err x) status.Unbound None 0 0 ++ lines_without l
 
 -- "a record with no session": the first is an open
 abbrev pub lines_open : Entry → List Record → List ℕ

@@ -50,7 +50,7 @@ abbrev sample : List ℕ
 sample = opens 2 ++ binds ++ application ++ sequence 7 4 ++ retransmission 7 2 2 ++ application ++ application ++ sequence 0 4
 
 pub sample-right : trace_text sample ≡ ascii "fixp-trace 1\n0 ok unbound 1 0 0\n1 ok established 1 0 0\n2 accept:1 established 2 0 0\n3 ok established 4 1 2\n4 ok established 4 1 0\n5 replay:2 established 4 1 0\n6 replay:3 established 4 0 1\n7 ok established 4 0 0\nend missing 0\n"
-unfolding number_at bytes_at maybe_seq maybe_duration reason_at flow_of policy_of config_at open_of bind_of exactly at_least peer_of entry_of reason_of framed decode size_at digits line_text at_most records_from lines_from same_id no_text queued saying answering and_then append_gap record_gap received_in_overflow drop_first consume_missing release_binding_state fewer ask request_missing maybe_finish_receiving recovered complete_outstanding in_range on_retransmission gap_recorded on_gap stop_replay announced on_next_seq replay_after count_delivered complete_if replayed_counted on_replayed number_live on_live on_application new_session resume on_established bind on_peer config_fits sound call
+unfolding number_at bytes_at maybe_seq maybe_duration reason_at flow_of policy_of config_at open_of bind_of exactly at_least peer_of entry_of reason_of framed decode size_at digits line_text at_most records_from lines_from no_text queued saying answering and_then append_gap record_gap received_in_overflow drop_first consume_missing release_binding_state fewer ask request_missing maybe_finish_receiving recovered complete_outstanding in_range on_retransmission gap_recorded on_gap stop_replay announced on_next_seq replay_after count_delivered complete_if replayed_counted on_replayed number_live on_live on_application new_session resume on_established bind on_peer config_fits sound call
 sample-right = refl
 
 -- "Empty input prints the first and last line."; a refused open and what stands behind it; a record with no session; a later open; a torn tail
@@ -62,5 +62,5 @@ pub ends-right :
     × (trace_text (opens 2 ++ opens 2) ≡ ascii "fixp-trace 1\n0 ok unbound 1 0 0\nstop 1\n")
     × (trace_text (opens 2 ++ (20 ∷ [])) ≡ ascii "fixp-trace 1\n0 ok unbound 1 0 0\nstop 1\n")
     × (trace_text (opens 2 ++ binds ++ sequence 7 4 ++ application ++ sequence 7 9) ≡ ascii "fixp-trace 1\n0 ok unbound 1 0 0\n1 ok established 1 0 0\n2 ok established 4 1 2\n3 accept:4 established 5 1 0\n4 ok established 9 2 1\nend missing 7\n")
-unfolding number_at bytes_at maybe_seq maybe_duration reason_at flow_of policy_of config_at open_of bind_of exactly at_least peer_of entry_of reason_of framed decode size_at digits line_text at_most records_from lines_from same_id no_text queued saying answering and_then append_gap record_gap received_in_overflow drop_first consume_missing release_binding_state fewer ask request_missing maybe_finish_receiving recovered complete_outstanding in_range on_retransmission gap_recorded on_gap stop_replay announced on_next_seq replay_after count_delivered complete_if replayed_counted on_replayed number_live on_live on_application new_session resume on_established bind on_peer config_fits sound call
+unfolding number_at bytes_at maybe_seq maybe_duration reason_at flow_of policy_of config_at open_of bind_of exactly at_least peer_of entry_of reason_of framed decode size_at digits line_text at_most records_from lines_from no_text queued saying answering and_then append_gap record_gap received_in_overflow drop_first consume_missing release_binding_state fewer ask request_missing maybe_finish_receiving recovered complete_outstanding in_range on_retransmission gap_recorded on_gap stop_replay announced on_next_seq replay_after count_delivered complete_if replayed_counted on_replayed number_live on_live on_application new_session resume on_established bind on_peer config_fits sound call
 ends-right = (refl, refl, refl, refl, refl, refl, refl)

@@ -17,9 +17,8 @@ use session::Session;
 use std::io::{self, Read};
 use trace::records::Entry;
 use types::answers::{Answer, Delivery, SessionStatus};
-use types::binding::{Link, MaybeBinding};
-use types::ids::{MaybeSeq, SeqNum};
-use types::parts::SeqSlot;
+use types::binding::{Link, Binding};
+use types::ids::{SeqNum};
 
 pub mod missing;
 pub mod ordinary;
@@ -46,8 +45,7 @@ fn wide(n: usize) -> u64
 fn status_of(link: Link) -> SessionStatus
     ensures { result ≡ link_status link.binding }
 {
-    let it = link.binding;
-    let MaybeBinding::Some(binding) = it else {
+    let Some(binding) = link.binding else {
         return SessionStatus::Unbound;
     };
     binding.status()
@@ -132,21 +130,19 @@ fn run(s: &[u8], start: usize, opened: Called, out: &mut [u8], first: usize) -> 
             return trace::text::stop_line(out, wrote, index);
         }
         let now = record.now;
-        let mut answer = Answer::Ok;
+        let mut answer = Ok(Verdict::Done);
         let mut outputs: u64 = 0;
         let quick = quick_of(session, link, queue, record);
         match quick {
             Quick::Live(seq) => {
-                let slot = SeqSlot {
-                    it: MaybeSeq::Some(SeqNum(seq.0 + 1)),
-                };
+                let slot = Some(SeqNum(seq.0 + 1));
                 session.inbound_next = slot;
                 session.start_pending = false;
                 link = heard(link, now);
-                answer = Answer::Delivered(Delivery::Accept {
-                    seq: MaybeSeq::Some(seq),
+                answer = Ok(Verdict::Delivered(Delivery::Accept {
+                    seq: Some(seq),
                     retransmitted: false,
-                });
+                }));
             }
             Quick::Same => {
                 session.awaiting_resume = false;
@@ -156,7 +152,7 @@ fn run(s: &[u8], start: usize, opened: Called, out: &mut [u8], first: usize) -> 
                 let following = SeqNum(seq.0 + 1);
                 session.outbound_next = following;
                 link = kept_alive(link, now);
-                answer = Answer::Sent(MaybeSeq::Some(seq));
+                answer = Ok(Verdict::Sent(Some(seq)));
             }
             Quick::No => {
                 let stamp = record.stamp;
@@ -193,11 +189,11 @@ fn is_refused(answer: Answer) -> bool
     ensures { result ≡ is_refused answer }
 {
     match answer {
-        Answer::Ok => false,
-        Answer::Delivered(delivery) => false,
-        Answer::Sent(seq) => false,
-        Answer::Batch(batch) => false,
-        Answer::Refused(refusal) => true,
+        Ok(Verdict::Done) => false,
+        Ok(Verdict::Delivered(delivery)) => false,
+        Ok(Verdict::Sent(seq)) => false,
+        Ok(Verdict::Batch(batch)) => false,
+        Err(refusal) => true,
     }
 }
 
@@ -229,7 +225,7 @@ fn run_from_open(s: &[u8], out: &mut [u8], first: usize) -> usize
             0,
             answer,
             SessionStatus::Unbound,
-            MaybeSeq::None,
+            None,
             0,
             0,
         );

@@ -1,12 +1,13 @@
 //! The missing figure of a trace's last line (01, "Trace program").
 ghost use Rattle.std.specs.Prelude.{◌≡◌, ◌+◌, ◌-◌, if◌then◌else◌};
-ghost use Rattle.rings.specs.View.{GapRingWf, gap_list, sound_gaps};
+ghost use Rattle.rings.specs.View.{RingWf, list_of, sound_gaps};
 ghost use Rattle.replay.specs.Missing.{at_most, missing_figure};
 
-use rings::gap_ring::GapRing;
+use rings::gaps::MAX_GAPS;
+use rings::ring::Ring;
 use rings::gaps::Gaps;
 use types::ids::ALL_ONES;
-use types::parts::{Gap, MaybeGap};
+use types::parts::{Gap};
 
 /// The length of a gap.
 fn length_of(gap: Gap) -> u64
@@ -29,14 +30,14 @@ fn add_up(a: u64, b: u64) -> u64
 }
 
 /// The missing figure of a list of gaps that is in order.
-fn sum_of(ring: GapRing) -> u64
-    requires { GapRingWf ring }
-    ensures { result ≡ missing_figure (gap_list ring) }
+fn sum_of(ring: Ring<MAX_GAPS>) -> u64
+    requires { RingWf ring }
+    ensures { result ≡ missing_figure (list_of ring) }
 {
     let mut left = ring;
     let mut sum: u64 = 0;
     loop {
-        let MaybeGap::Some(gap) = left.front() else {
+        let Some(gap) = left.front() else {
             return sum;
         };
         sum = add_up(sum, length_of(gap));
@@ -46,7 +47,7 @@ fn sum_of(ring: GapRing) -> u64
 
 /// The missing figure: the sum of the gap lengths; of a record out of order none.
 pub fn missing_in(gaps: Gaps) -> u64
-    ensures { result ≡ (if sound_gaps gaps then missing_figure (gap_list gaps.missing) else 0) }
+    ensures { result ≡ (if sound_gaps gaps then missing_figure (list_of gaps.missing) else 0) }
 {
     if !gaps.sound() {
         return 0;

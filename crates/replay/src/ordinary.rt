@@ -6,8 +6,8 @@ ghost use Rattle.replay.specs.Ordinary.{LiveIf, SameIf, SentIf, QuickIs, link_he
 use queue::Outputs;
 use session::Session;
 use trace::records::{Entry, Record};
-use types::binding::{Binding, Link, MaybeBinding};
-use types::ids::{ALL_ONES, Instant, MaybeSeq, SeqNum};
+use types::binding::{Binding, Link};
+use types::ids::{ALL_ONES, Instant, SeqNum};
 use types::messages::PeerMessage;
 
 /// An ordinary record, which changes a few fields and queues nothing.
@@ -37,7 +37,7 @@ fn quick_sequence(session: Session, binding: Binding, message: PeerMessage) -> Q
 fn quick_live(session: Session, binding: Binding) -> Quick
     ensures { LiveIf result (view session) binding }
 {
-    let MaybeSeq::Some(seq) = fast::live(session, binding) else {
+    let Some(seq) = fast::live(session, binding) else {
         return Quick::No;
     };
     if seq.0 == ALL_ONES {
@@ -64,8 +64,7 @@ fn quick_send(session: Session, binding: Binding) -> Quick
 pub fn quick_of(session: Session, link: Link, queue: Outputs, record: Record) -> Quick
     ensures { QuickIs result «record» session link queue }
 {
-    let it = link.binding;
-    let MaybeBinding::Some(binding) = it else {
+    let Some(binding) = link.binding else {
         return Quick::No;
     };
     let reason = link.reason;
@@ -107,14 +106,13 @@ pub fn heard(link: Link, now: Instant) -> Link
     ensures { result ≡ link_heard now link }
 {
     let reason = link.reason;
-    let it = link.binding;
-    let MaybeBinding::Some(binding) = it else {
+    let Some(binding) = link.binding else {
         return link;
     };
     let mut after = binding;
     after.last_received = now;
     Link {
-        binding: MaybeBinding::Some(after),
+        binding: Some(after),
         reason,
     }
 }
@@ -124,14 +122,13 @@ pub fn kept_alive(link: Link, now: Instant) -> Link
     ensures { result ≡ link_kept_alive now link }
 {
     let reason = link.reason;
-    let it = link.binding;
-    let MaybeBinding::Some(binding) = it else {
+    let Some(binding) = link.binding else {
         return link;
     };
     let mut after = binding;
     after.last_keepalive = now;
     Link {
-        binding: MaybeBinding::Some(after),
+        binding: Some(after),
         reason,
     }
 }

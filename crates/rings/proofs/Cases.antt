@@ -1,4 +1,5 @@
 -- The rules of Gaps by their cases: what each answers, given the tests that lead there.
+use Rattle.std.specs.Prelude.{Some, None}
 use Prim.Native.Nat.{ℕ, ◌+◌, ◌<◌, ◌≤◌}
 use mathlib.Core.Path.{◌≡◌}
 use mathlib.Core.List.{[], ◌∷◌, ◌++◌}
@@ -6,7 +7,6 @@ use mathlib.Core.Bool.{true, false}
 use borrow.Author.Tests.{lt-ltb, le-ltb, le-leb, lt-leb, eq-eqb, ne_eqb}
 use lib.ListN.{length}
 use Rattle.rules.specs.Names.{SeqNum, Gap}
-use Rattle.rules.specs.Names.gap
 use Rattle.rules.specs.Lists.{rest, front_of, back_of, set_back}
 use Rattle.rules.specs.State.{Lists}
 use Rattle.rules.specs.Gaps.{max_runs, gap_of, lists, kept, appended, append_gap, record_gap, widen, hold_refused_gap, drop_first, consume_missing}
@@ -21,15 +21,15 @@ module _ (max : ℕ) (from end : SeqNum) (l : Lists) where
   append-room h = rw (lt-leb max (length l.missing) h)
 
   -- the first gap
-  pub record-first : back_of l.missing ≡ gap.None → record_gap max from end l ≡ append_gap max from end l
+  pub record-first : back_of l.missing ≡ None → record_gap max from end l ≡ append_gap max from end l
   unfolding record_gap
   record-first e = rw e
 
-  pub record_apart : (last : Gap) → back_of l.missing ≡ gap.Some last → (last.end.0 ≡ from.0 → ⊥) → record_gap max from end l ≡ append_gap max from end l
+  pub record_apart : (last : Gap) → back_of l.missing ≡ Some last → (last.end.0 ≡ from.0 → ⊥) → record_gap max from end l ≡ append_gap max from end l
   unfolding record_gap
   record_apart last e n = rw (e, ne_eqb last.end.0 from.0 n)
 
-  pub record-touching : (last : Gap) → back_of l.missing ≡ gap.Some last → last.end.0 ≡ from.0 → record_gap max from end l ≡ kept (lists (set_back l.missing (gap_of last.from end)) l.overflow_received) true
+  pub record-touching : (last : Gap) → back_of l.missing ≡ Some last → last.end.0 ≡ from.0 → record_gap max from end l ≡ kept (lists (set_back l.missing (gap_of last.from end)) l.overflow_received) true
   unfolding record_gap
   record-touching last e n = rw (e, eq-eqb last.end.0 from.0 n)
 
@@ -39,7 +39,7 @@ module _ (max : ℕ) (from end : SeqNum) (l : Lists) where
   hold-first h = rw (le-leb (length l.missing) max h)
 
   -- or is joined to the gap there
-  module _ (last : Gap) (above : max < length l.missing) (e : back_of l.missing ≡ gap.Some last) where
+  module _ (last : Gap) (above : max < length l.missing) (e : back_of l.missing ≡ Some last) where
     pub hold-touching : from.0 ≤ last.end.0 → hold_refused_gap max from end l ≡ kept (widen last end l) true
     unfolding hold_refused_gap
     hold-touching h = rw (lt-leb (length l.missing) max above, e, le-leb from.0 last.end.0 h)
@@ -57,12 +57,12 @@ module _ (count : ℕ) (l : Lists) where
   unfolding consume_missing
   consume-zero h = rw (eq-eqb count 0 h)
 
-  pub consume-none : (count ≡ 0 → ⊥) → front_of l.missing ≡ gap.None → consume_missing count l ≡ l
+  pub consume-none : (count ≡ 0 → ⊥) → front_of l.missing ≡ None → consume_missing count l ≡ l
   unfolding consume_missing
   consume-none h e = rw (ne_eqb count 0 h, e)
 
   -- of the gap first
-  module _ (first : Gap) (some : count ≡ 0 → ⊥) (e : front_of l.missing ≡ gap.Some first) where
+  module _ (first : Gap) (some : count ≡ 0 → ⊥) (e : front_of l.missing ≡ Some first) where
     pub consume-whole : first.end.0 ≤ first.from.0 + count → consume_missing count l ≡ drop_first l
     unfolding consume_missing
     consume-whole h = rw (ne_eqb count 0 some, e, le-ltb (first.from.0 + count) first.end.0 h)

@@ -1,4 +1,5 @@
 -- Laws of lists of gaps at their ends, of the two rings as such lists, and what a sound record is.
+use Rattle.std.specs.Prelude.{Some, None}
 use Prim.Native.Nat.{ℕ, ◌<◌, ◌≤◌}
 use mathlib.Core.Path.{◌≡◌, refl}
 use mathlib.Core.List.{List, [], ◌∷◌, ◌++◌}
@@ -8,53 +9,51 @@ use borrow.Author.Tests.{le-leb, lt-leb, ne_eqb, ltb-true, leb-true}
 use lib.ListN.{length}
 use lib.Dec.{ltb, leb, eqb}
 use Rattle.rules.specs.Names.{Gap}
-use Rattle.rules.specs.Names.gap
 use Rattle.rules.specs.Lists.{rest, is_nil, front_of, back_of, drop_below}
-use Rattle.rules.specs.Gaps.{max_gaps, max_runs, runs_with}
-use Rattle.rings.specs.View.{gap_list, run_list, no_gap, GapRingWf, RunRingWf, GapsWf, sound_gap_ring, sound_run_ring, sound_gaps}
-use Rattle.rings.specs.declared.gap_ring.GapRing.{GapRing}
-use Rattle.rings.specs.declared.run_ring.RunRing.{RunRing}
+use Rattle.rules.specs.Gaps.{runs_with}
+use Rattle.rings.specs.View.{list_of, no_gap, RingWf, GapsWf, sound_ring, sound_gaps}
+use Rattle.rings.specs.declared.ring.Ring.{Ring}
 use Rattle.rings.specs.declared.gaps.Gaps.{Gaps}
 use Rattle.rings.proofs.Laws.{length-ring}
 
 -- ---- the front
-pub front-some : (l : List Gap) (g : Gap) → front_of l ≡ gap.Some g → l ≡ g ∷ rest l
+pub front-some : (l : List Gap) (g : Gap) → front_of l ≡ Some g → l ≡ g ∷ rest l
 front-some [] g e = absurd (let z : ◌≡◌ {A = ℕ} 0 1 = cc in omega arith)
 front-some (x ∷ l) g e = let z : x ≡ g = cc in rw z
 
-pub front-none : (l : List Gap) → front_of l ≡ gap.None → l ≡ []
+pub front-none : (l : List Gap) → front_of l ≡ None → l ≡ []
 front-none [] e = refl
 front-none (x ∷ l) e = absurd (let z : ◌≡◌ {A = ℕ} 0 1 = cc in omega arith)
 
-pub front_long : (l : List Gap) (g : Gap) → front_of l ≡ gap.Some g → 0 < length l
+pub front_long : (l : List Gap) (g : Gap) → front_of l ≡ Some g → 0 < length l
 front_long l g e = rw (front-some l g e) (omega arith)
 
-pub rest-less : (l : List Gap) (g : Gap) → front_of l ≡ gap.Some g → length (rest l) < length l
+pub rest-less : (l : List Gap) (g : Gap) → front_of l ≡ Some g → length (rest l) < length l
 rest-less l g e = rw (front-some l g e) (omega arith)
 
 -- ---- the back
-pub back-snoc : (l : List Gap) (g : Gap) → back_of (l ++ (g ∷ [])) ≡ gap.Some g
+pub back-snoc : (l : List Gap) (g : Gap) → back_of (l ++ (g ∷ [])) ≡ Some g
 back-snoc [] g = refl
 back-snoc (x ∷ []) g = refl
 back-snoc (x ∷ y ∷ l) g = back-snoc (y ∷ l) g
 
-pub back_long : (l : List Gap) (g : Gap) → back_of l ≡ gap.Some g → 0 < length l
+pub back_long : (l : List Gap) (g : Gap) → back_of l ≡ Some g → 0 < length l
 back_long [] g e = absurd (let z : ◌≡◌ {A = ℕ} 0 1 = cc in omega arith)
 back_long (x ∷ l) g e = omega arith
 
-pub back_none : (l : List Gap) → back_of l ≡ gap.None → length l ≡ 0
+pub back_none : (l : List Gap) → back_of l ≡ None → length l ≡ 0
 back_none [] e = refl
 back_none (x ∷ []) e = absurd (let z : ◌≡◌ {A = ℕ} 0 1 = cc in omega arith)
 back_none (x ∷ y ∷ l) e = absurd (omega (arith, back_none (y ∷ l) e))
 
 -- ---- runs that go from the front
-pub drop-none : (n : ℕ) (l : List Gap) → front_of l ≡ gap.None → l ≡ drop_below n l
+pub drop-none : (n : ℕ) (l : List Gap) → front_of l ≡ None → l ≡ drop_below n l
 drop-none n l e = rw (front-none l e)
 
-pub drop-stop : (n : ℕ) (l : List Gap) (g : Gap) → front_of l ≡ gap.Some g → n < g.end.0 → l ≡ drop_below n l
+pub drop-stop : (n : ℕ) (l : List Gap) (g : Gap) → front_of l ≡ Some g → n < g.end.0 → l ≡ drop_below n l
 drop-stop n l g e h = rw (front-some l g e, lt-leb g.end.0 n h)
 
-pub drop-go : (n : ℕ) (l : List Gap) (g : Gap) → front_of l ≡ gap.Some g → g.end.0 ≤ n → drop_below n (rest l) ≡ drop_below n l
+pub drop-go : (n : ℕ) (l : List Gap) (g : Gap) → front_of l ≡ Some g → g.end.0 ≤ n → drop_below n (rest l) ≡ drop_below n l
 drop-go n l g e h = rw (front-some l g e, le-leb g.end.0 n h)
 
 -- ---- a list of some or of none
@@ -67,13 +66,9 @@ runs-with [] runs h = absurd (h refl)
 runs-with (g ∷ l) runs h = refl
 
 -- ---- the rings
-pub gap_length : (r : GapRing) → length (gap_list r) ≡ r.count
-unfolding gap_list
-gap_length r = length-ring max_gaps no_gap r.slots r.head r.count
-
-pub run_length : (r : RunRing) → length (run_list r) ≡ r.count
-unfolding run_list
-run_length r = length-ring max_runs no_gap r.slots r.head r.count
+pub ring_length : {room : ℕ} (r : Ring room) → length (list_of r) ≡ r.count
+unfolding list_of
+ring_length {room = room} r = length-ring room no_gap r.slots r.head r.count
 
 -- ---- a sound record is well formed
 pub and_left : (a b : Bool) → a && b ≡ true → a ≡ true
@@ -84,24 +79,17 @@ pub and_right : (a b : Bool) → a && b ≡ true → b ≡ true
 and_right true b e = e
 and_right false b e = cc
 
-pub sound-gap-ring : (r : GapRing) → sound_gap_ring r ≡ true → GapRingWf r
-sound-gap-ring r e =
+pub sound-ring : {room : ℕ} (r : Ring room) → sound_ring r ≡ true → RingWf r
+sound-ring {room = room} r e =
     record {
-      head_in = ltb-true _ _ (and_left (ltb r.head max_gaps) (leb r.count max_gaps) e);
-      count_in = leb-true _ _ (and_right (ltb r.head max_gaps) (leb r.count max_gaps) e);
-    }
-
-pub sound-run-ring : (r : RunRing) → sound_run_ring r ≡ true → RunRingWf r
-sound-run-ring r e =
-    record {
-      head_in = ltb-true _ _ (and_left (ltb r.head max_runs) (leb r.count max_runs) e);
-      count_in = leb-true _ _ (and_right (ltb r.head max_runs) (leb r.count max_runs) e);
+      head_in = ltb-true _ _ (and_left (ltb r.head room) (leb r.count room) e);
+      count_in = leb-true _ _ (and_right (ltb r.head room) (leb r.count room) e);
     }
 
 pub sound-wf : (g : Gaps) → sound_gaps g ≡ true → GapsWf g
 unfolding sound_gaps
 sound-wf g e =
     record {
-      missing = sound-gap-ring g.missing (and_left (sound_gap_ring g.missing) (sound_run_ring g.overflow_received) e);
-      overflow_received = sound-run-ring g.overflow_received (and_right (sound_gap_ring g.missing) (sound_run_ring g.overflow_received) e);
+      missing = sound-ring g.missing (and_left (sound_ring g.missing) (sound_ring g.overflow_received) e);
+      overflow_received = sound-ring g.overflow_received (and_right (sound_ring g.missing) (sound_ring g.overflow_received) e);
     }

@@ -5,16 +5,21 @@ ghost use Rattle.rules.specs.Gaps.{max_gaps, lists, appended, append_gap, record
 ghost use Rattle.rules.specs.Gaps.{received_in_overflow, drop_first, consume_missing};
 ghost use Rattle.rings.specs.View.{lists_of, GapsWf, GapsIs, KeptIs, SeenIs, sound_gaps};
 
-use crate::gap_ring::GapRing;
-use crate::run_ring::{MAX_RUNS, RunRing};
+use crate::ring::Ring;
 use types::ids::SeqNum;
-use types::parts::{Gap, MaybeGap};
+use types::parts::Gap;
+
+/// 01: "the gap list 65", 64 pending gaps and the one that is held. The one place that names it.
+pub const MAX_GAPS: usize = 65;
+
+/// 01: "the list of overflow runs 256" (`MAX_OVERFLOW_RECEIVED_RUNS`). The one place that names it.
+pub const MAX_RUNS: usize = 256;
 
 /// The unrecovered gaps, in order, and the overflow runs: what was received live inside the last gap.
 #[derive(Clone, Copy)]
 pub struct Gaps {
-    pub missing: GapRing,
-    pub overflow_received: RunRing,
+    pub missing: Ring<MAX_GAPS>,
+    pub overflow_received: Ring<MAX_RUNS>,
 }
 
 /// The lists, and whether the gap was kept.
@@ -32,13 +37,11 @@ pub struct Seen {
 }
 
 /// The later of two numbers.
+#[tactic(auto, unfolding(rules::specs::Gaps::later_of))]
 fn later(a: SeqNum, b: SeqNum) -> SeqNum
     ensures { result ≡ later_of a b }
 {
-    if a.0 < b.0 {
-        return b;
-    }
-    a
+    a.max(b)
 }
 
 impl Gaps {
@@ -47,23 +50,21 @@ impl Gaps {
         ensures { GapsIs result (lists [] []) }
     {
         Gaps {
-            missing: GapRing::new(),
-            overflow_received: RunRing::new(),
+            missing: Ring::new(),
+            overflow_received: Ring::new(),
         }
     }
 
     /// Whether each list's position and count are within its room (01, refusal 1).
+    #[tactic(auto, unfolding(crate::specs::View::sound_gaps))]
     pub fn sound(self) -> bool
         ensures { result ≡ sound_gaps self }
     {
-        if !self.missing.sound() {
-            return false;
-        }
-        self.overflow_received.sound()
+        self.missing.sound() && self.overflow_received.sound()
     }
 
     /// The first gap, which is the next to be asked for.
-    pub fn front(self) -> MaybeGap
+    pub fn front(self) -> Option<Gap>
         requires { GapsWf self }
         ensures { result ≡ front_of (lists_of self).missing }
     {
@@ -83,7 +84,7 @@ impl Gaps {
         requires self_len_bound { length (lists_of self).missing < max_gaps }
         ensures { GapsIs result (appended from end (lists_of self)) }
     {
-        self.missing = self.missing.push_back(Gap { from, end });
+        self.missing.push_back(Gap { from, end });
         self
     }
 
@@ -112,14 +113,14 @@ impl Gaps {
         requires max_bound { max ≤ 64 }
         ensures { KeptIs result (record_gap max from end (lists_of self)) }
     {
-        let MaybeGap::Some(last) = self.missing.back() else {
+        let Some(last) = self.missing.back() else {
             return self.append_gap(max, from, end);
         };
         if last.end.0 != from.0 {
             return self.append_gap(max, from, end);
         }
         let begin = last.from;
-        self.missing = self.missing.set_back(Gap { from: begin, end });
+        self.missing.set_back(Gap { from: begin, end });
         Kept {
             gaps: self,
             ok: true,
@@ -134,7 +135,7 @@ impl Gaps {
     {
         let begin = last.from;
         let until = later(last.end, end);
-        self.missing = self.missing.set_back(Gap {
+        self.missing.set_back(Gap {
             from: begin,
             end: until,
         });
@@ -155,7 +156,7 @@ impl Gaps {
                 ok: true,
             };
         }
-        let MaybeGap::Some(last) = self.missing.back() else {
+        let Some(last) = self.missing.back() else {
             let longer = self.push_gap(from, end);
             return Kept {
                 gaps: longer,
@@ -176,7 +177,7 @@ impl Gaps {
             };
         }
         let begin = last.end;
-        self.overflow_received = self.overflow_received.push_back(Gap {
+        self.overflow_received.push_back(Gap {
             from: begin,
             end: from,
         });
@@ -192,8 +193,8 @@ impl Gaps {
         requires { GapsWf self }
         ensures { SeenIs result (received_in_overflow seq (lists_of self)) }
     {
-        self.overflow_received = self.overflow_received.drop_below(seq);
-        let MaybeGap::Some(run) = self.overflow_received.front() else {
+        self.overflow_received.drop_below(seq);
+        let Some(run) = self.overflow_received.front() else {
             return Seen {
                 gaps: self,
                 duplicate: false,
@@ -210,9 +211,9 @@ impl Gaps {
         requires { GapsWf self }
         ensures { GapsIs result (drop_first (lists_of self)) }
     {
-        self.missing = self.missing.pop_front();
+        self.missing.pop_front();
         if self.missing.len() == 0 {
-            self.overflow_received = RunRing::new();
+            self.overflow_received = Ring::new();
             return self;
         }
         self
@@ -226,7 +227,7 @@ impl Gaps {
         if count == 0 {
             return self;
         }
-        let MaybeGap::Some(first) = self.missing.front() else {
+        let Some(first) = self.missing.front() else {
             return self;
         };
         // Where from + count passes 2^64-1 it passes the end too.
@@ -238,7 +239,7 @@ impl Gaps {
         }
         let from = first.from.0 + count;
         let end = first.end;
-        self.missing = self.missing.set_front(Gap {
+        self.missing.set_front(Gap {
             from: SeqNum(from),
             end,
         });

@@ -1,14 +1,13 @@
 //! Places of a ring.
-ghost use Rattle.std.specs.Prelude.{◌+◌, ◌<◌};
+ghost use Rattle.std.specs.Prelude.{◌+◌, ◌<◌, ◌≤◌};
 ghost use Rattle.rings.specs.Ring.{Wrapped};
 
-/// The place that `p` stands for in a ring of `room` places: past the last comes the first.
-pub fn wrap(p: usize, room: usize) -> usize
-    requires { p < room + room }
-    ensures { Wrapped room p result }
+/// The place `k` behind `head` in a ring of `room` places: past the last comes the first.
+pub fn place(head: usize, k: usize, room: usize) -> usize
+    requires head_in { head < room }
+    requires within { k ≤ room }
+    ensures { Wrapped room (head + k) result }
 {
-    if p < room {
-        return p;
-    }
-    p - room
+    let behind = room - head;
+    if k < behind { head + k } else { k - behind }
 }

@@ -1,12 +1,11 @@
 -- 01's numbers and values for each case of an answer.
-use Rattle.std.specs.Prelude.{ℕ, Bool, true, false, List, [], ◌∷◌}
-use Rattle.rules.specs.Names.{MaybeSeq, SessionStatus, Operation, Refusal, Answer}
-use Rattle.rules.specs.Names.seq
+use Rattle.std.specs.Prelude.{ℕ, Bool, true, false, List, [], ◌∷◌, Option, Some, None, Ok, Err}
+use Rattle.rules.specs.Names.{SeqNum, SessionStatus, Operation, Refusal, Answer}
 use Rattle.rules.specs.Names.status
 use Rattle.rules.specs.Names.operation
 use Rattle.rules.specs.Names.refusal
 use Rattle.rules.specs.Names.delivery
-use Rattle.rules.specs.Names.answer
+use Rattle.rules.specs.Names.verdict
 
 -- `unbound`, `established`, `terminating`, `closing`
 abbrev pub status_number : SessionStatus → ℕ
@@ -68,18 +67,18 @@ pub data Told : Type 0 where
   refused : ℕ → List ℕ → Told
 
 -- a number, if there is one
-abbrev pub numbers : MaybeSeq → List ℕ
-numbers seq.None = []
-numbers (seq.Some n) = n.0 ∷ []
+abbrev pub numbers : Option SeqNum → List ℕ
+numbers None = []
+numbers (Some n) = n.0 ∷ []
 
 abbrev pub accepted : Bool → List ℕ → Told
 accepted true l = replay l
 accepted false l = accept l
 
 abbrev pub told : Answer → Told
-told answer.Ok = ok
-told (answer.Delivered delivery.Discard) = discard
-told (answer.Delivered (delivery.Accept n r)) = accepted r (numbers n)
-told (answer.Sent n) = sent (numbers n)
-told (answer.Batch b) = batch b.from.0 b.count
-told (answer.Refused r) = refused (refusal_number r) (refusal_values r)
+told (Ok verdict.Done) = ok
+told (Ok (verdict.Delivered delivery.Discard)) = discard
+told (Ok (verdict.Delivered (delivery.Accept n r))) = accepted r (numbers n)
+told (Ok (verdict.Sent n)) = sent (numbers n)
+told (Ok (verdict.Batch b)) = batch b.from.0 b.count
+told (Err r) = refused (refusal_number r) (refusal_values r)

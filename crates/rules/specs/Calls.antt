@@ -1,12 +1,10 @@
 -- The calls: what each is refused for, in the order of 01's table, and what it does where nothing refuses it.
-use Rattle.std.specs.Prelude.{ℕ, ◌+◌, Bool, true, false, not, ◌&&◌, List, [], ◌∷◌, length, leb, eqb}
+use Rattle.std.specs.Prelude.{ℕ, ◌+◌, Bool, true, false, not, ◌&&◌, List, [], ◌∷◌, length, leb, eqb, Option, Some, None, Ok, Err}
 use Rattle.types.specs.Reasons.{no_text, reason_fits}
-use Rattle.rules.specs.Names.{SessionId, Nanotime, Instant, MaybeSeq, MaybeInstant, FlowType, TerminationCode, RetransmitRejectCode, FixpConfig, Reason, PeerMessage, Output, Bound, Binding, MaybeBinding, Link, Answer}
+use Rattle.rules.specs.Names.{SessionId, Nanotime, Instant, SeqNum, FlowType, TerminationCode, RetransmitRejectCode, FixpConfig, Reason, PeerMessage, Output, Bound, Binding, Link, Answer}
 use Rattle.rules.specs.Names.bound
-use Rattle.rules.specs.Names.linked
-use Rattle.rules.specs.Names.instant
 use Rattle.rules.specs.Names.refusal
-use Rattle.rules.specs.Names.answer
+use Rattle.rules.specs.Names.verdict
 use Rattle.rules.specs.Lists.{rest}
 use Rattle.rules.specs.State.{Sess, Queue, queued, Did}
 use Rattle.rules.specs.Gaps.{max_gaps, max_runs}
@@ -29,7 +27,7 @@ world s l q = record { session = s; link = l; queue = q }
 
 -- no binding
 abbrev pub unlinked : Link
-unlinked = record { binding = linked.None; reason = no_text }
+unlinked = record { binding = None; reason = no_text }
 
 -- "The queue has 32 places"; "at least 6 free output places"
 abbrev pub max_outs : ℕ
@@ -57,9 +55,9 @@ sound w =
     && leb (length w.queue.outs) max_outs
     && texts_fit w.queue.outs
 
-abbrev pub is_bound : MaybeBinding → Bool
-is_bound linked.None = false
-is_bound (linked.Some b) = true
+abbrev pub is_bound : Option Binding → Bool
+is_bound None = false
+is_bound (Some b) = true
 
 -- 7: "fewer than 6 free places"
 abbrev pub has_room : Queue → Bool
@@ -68,7 +66,7 @@ has_room q = leb (length q.outs + room_for_call) max_outs
 -- ---- the calls but new, poll, transport_closed and the queries
 pub data Call : Type 0 where
   -- now, stamp, local and remote keepalive, the peer's next number
-  bind_call : Instant → Nanotime → ℕ → ℕ → MaybeSeq → Call
+  bind_call : Instant → Nanotime → ℕ → ℕ → Option SeqNum → Call
   release_call : Call
   -- now, stamp, message, its reason
   peer_call : Instant → Nanotime → PeerMessage → Reason → Call
@@ -81,9 +79,9 @@ pub data Call : Type 0 where
   timeout_call : Instant → Nanotime → Call
 
 -- 3: "no binding"
-abbrev pub if_bound : MaybeBinding → (Binding → Refused) → Refused
-if_bound linked.None k = refuses refusal.NotBound
-if_bound (linked.Some b) k = k b
+abbrev pub if_bound : Option Binding → (Binding → Refused) → Refused
+if_bound None k = refuses refusal.NotBound
+if_bound (Some b) k = k b
 
 -- "Order: as numbered through 7, then the Rust's own"
 abbrev pub wrong : Call → World → Refused
@@ -133,21 +131,21 @@ pub record Ran : Type 0 where
 
 -- "`Unbind` drops the binding"; the reason of this side's Terminate stays beside a binding that stands
 abbrev pub link_after : Bound → Binding → Reason → Link
-link_after bound.Stay b reason = record { binding = linked.Some b; reason = reason }
+link_after bound.Stay b reason = record { binding = Some b; reason = reason }
 link_after bound.Unbind b reason = unlinked
 
 abbrev pub ran_as : Queue → Reason → Did → Ran
 ran_as q reason d = record { world = world d.session (link_after d.bound d.binding reason) (queued q d.outs); answer = d.answer }
 
 -- with no binding: refusal 3 has come before
-abbrev pub within : World → MaybeBinding → (Binding → Did) → Reason → Ran
-within w linked.None k reason = record { world = w; answer = answer.Ok }
-within w (linked.Some b) k reason = ran_as w.queue reason (k b)
+abbrev pub within : World → Option Binding → (Binding → Did) → Reason → Ran
+within w None k reason = record { world = w; answer = Ok verdict.Done }
+within w (Some b) k reason = ran_as w.queue reason (k b)
 
 -- a bind has no reason beside it yet, and a terminate sets it
 abbrev pub does : Call → World → Ran
 does (bind_call now stamp l r next) w = ran_as w.queue no_text (bind now stamp l r next w.session)
-does release_call w = record { world = world (release_binding_state w.session) unlinked w.queue; answer = answer.Ok }
+does release_call w = record { world = world (release_binding_state w.session) unlinked w.queue; answer = Ok verdict.Done }
 does (peer_call now stamp m text) w = within w w.link.binding (on_peer m now stamp w.link.reason text w.session) w.link.reason
 does (application_call now stamp) w = within w w.link.binding (on_application now stamp w.session) w.link.reason
 does (send_call now) w = within w w.link.binding (local.send_application now w.session) w.link.reason
@@ -160,7 +158,7 @@ does (timeout_call now stamp) w = within w w.link.binding (on_timeout now stamp 
 -- "Each leaves session, binding and queue unchanged."
 abbrev pub ran_if : Refused → Ran → World → Ran
 ran_if passes d w = d
-ran_if (refuses r) d w = record { world = w; answer = answer.Refused r }
+ran_if (refuses r) d w = record { world = w; answer = Err r }
 
 unfoldable pub call : Call → World → Ran
 call c w = ran_if (wrong c w) (does c w) w
@@ -185,6 +183,6 @@ abbrev pub transport_closed : Queue → Queue
 transport_closed q = record { outs = q.outs; closing = false }
 
 -- "Unbound, there is no deadline."
-abbrev pub deadline_of : World → MaybeBinding → MaybeInstant
-deadline_of w linked.None = instant.None
-deadline_of w (linked.Some b) = next_deadline w.session b
+abbrev pub deadline_of : World → Option Binding → Option Instant
+deadline_of w None = None
+deadline_of w (Some b) = next_deadline w.session b

@@ -1,67 +1,64 @@
 -- 01, "Timeout": silence, then stall, then heartbeat; at the deadline counts as due (FIXP 4.4 and 4.5).
-use Rattle.std.specs.Prelude.{ℕ, ◌+◌, Bool, true, false, ◌||◌, [], ◌∷◌, leb, if◌then◌else◌}
+use Rattle.std.specs.Prelude.{ℕ, ◌+◌, Bool, true, false, ◌||◌, [], ◌∷◌, leb, if◌then◌else◌, Option, Some, None}
 use Rattle.types.specs.Base.{deadline_at}
 use Rattle.types.specs.Flows.{is_sequenced}
 use Rattle.types.specs.States.{with_keepalive, with_in_sequence}
-use Rattle.rules.specs.Names.{Nanotime, Instant, MaybeInstant, MaybeDuration, RetransmitStallPolicy, Reason, BindState, Binding, Outstanding, MaybeOutstanding}
+use Rattle.rules.specs.Names.{Nanotime, Instant, RetransmitStallPolicy, Reason, BindState, Binding, Outstanding}
 use Rattle.rules.specs.Names.code
-use Rattle.rules.specs.Names.instant
-use Rattle.rules.specs.Names.duration
 use Rattle.rules.specs.Names.policy
 use Rattle.rules.specs.Names.message
 use Rattle.rules.specs.Names.event as ev
 use Rattle.rules.specs.Names.by
 use Rattle.rules.specs.Names.state
-use Rattle.rules.specs.Names.outstanding
 use Rattle.rules.specs.State.{Sess, with_outstanding, Did, stays, ends, saying, and_then}
 use Rattle.rules.specs.Outputs.{send, event, event_quoting, close_transport}
 use Rattle.rules.specs.Ending.{fail, release_binding_state}
 use Rattle.rules.specs.Asking.{re_request}
 
 -- the grace beside the peer's keepalive: that of the configuration, else the keepalive again
-abbrev pub grace_or : MaybeDuration → ℕ → ℕ
-grace_or duration.None keepalive = keepalive
-grace_or (duration.Some grace) keepalive = grace
+abbrev pub grace_or : Option ℕ → ℕ → ℕ
+grace_or None keepalive = keepalive
+grace_or (Some grace) keepalive = grace
 
-unfoldable pub silence_deadline : Sess → Binding → MaybeInstant
+unfoldable pub silence_deadline : Sess → Binding → Option Instant
 silence_deadline s b =
     deadline_at (b.last_received.0 + (b.remote_keepalive + grace_or s.config.peer_silence_grace b.remote_keepalive))
 
 -- a stall already reported runs no timer
-abbrev pub stall_at : MaybeOutstanding → ℕ → MaybeInstant
-stall_at outstanding.None timeout = instant.None
-stall_at (outstanding.Some o) timeout =
-    if o.stall_reported then instant.None else
+abbrev pub stall_at : Option Outstanding → ℕ → Option Instant
+stall_at None timeout = None
+stall_at (Some o) timeout =
+    if o.stall_reported then None else
     deadline_at (o.last_progress.0 + timeout)
 
-unfoldable pub stall_deadline : Sess → MaybeInstant
+unfoldable pub stall_deadline : Sess → Option Instant
 stall_deadline s = stall_at s.outstanding s.config.retransmit_timeout
 
-unfoldable pub heartbeat_deadline : Binding → MaybeInstant
+unfoldable pub heartbeat_deadline : Binding → Option Instant
 heartbeat_deadline b = deadline_at (b.last_keepalive.0 + b.local_keepalive)
 
-abbrev pub earlier_than : Instant → MaybeInstant → MaybeInstant
-earlier_than a instant.None = instant.Some a
-earlier_than a (instant.Some b) = if leb a.0 b.0 then instant.Some a else instant.Some b
+abbrev pub earlier_than : Instant → Option Instant → Option Instant
+earlier_than a None = Some a
+earlier_than a (Some b) = if leb a.0 b.0 then Some a else Some b
 
 -- the earlier of two deadlines
-abbrev pub earlier : MaybeInstant → MaybeInstant → MaybeInstant
-earlier instant.None d = d
-earlier (instant.Some a) d = earlier_than a d
+abbrev pub earlier : Option Instant → Option Instant → Option Instant
+earlier None d = d
+earlier (Some a) d = earlier_than a d
 
-abbrev pub deadline_in : BindState → Sess → Binding → MaybeInstant
+abbrev pub deadline_in : BindState → Sess → Binding → Option Instant
 deadline_in state.Established s b = earlier (silence_deadline s b) (earlier (heartbeat_deadline b) (stall_deadline s))
 deadline_in (state.Terminating sent code) s b = deadline_at (sent.0 + b.local_keepalive)
 deadline_in (state.Closing deadline) s b = deadline
 
 -- the next instant at which a timeout has work to do
-unfoldable pub next_deadline : Sess → Binding → MaybeInstant
-next_deadline s b = deadline_in b.state.it s b
+unfoldable pub next_deadline : Sess → Binding → Option Instant
+next_deadline s b = deadline_in b.state s b
 
 -- "at the deadline counts as due"
-abbrev pub is_due : MaybeInstant → Instant → Bool
-is_due instant.None now = false
-is_due (instant.Some d) now = leb d.0 now.0
+abbrev pub is_due : Option Instant → Instant → Bool
+is_due None now = false
+is_due (Some d) now = leb d.0 now.0
 
 -- ---- a heartbeat (FIXP 4.5)
 unfoldable pub heartbeat : Instant → Sess → Binding → Did
@@ -88,7 +85,7 @@ reported o =
 
 -- the stall is reported and waited out
 unfoldable pub wait_out : Outstanding → Sess → Binding → Did
-wait_out o s b = stays (with_outstanding (outstanding.Some (reported o)) s) b []
+wait_out o s b = stays (with_outstanding (Some (reported o)) s) b []
 
 abbrev pub stall_by : RetransmitStallPolicy → Instant → Nanotime → Outstanding → Sess → Binding → Did
 stall_by policy.Terminate now stamp o s b = fail code.UnspecifiedError 41 s b
@@ -99,9 +96,9 @@ stall_by policy.EventOnly now stamp o s b = wait_out o s b
 unfoldable pub on_stall : Instant → Nanotime → Outstanding → Sess → Binding → Did
 on_stall now stamp o s b = saying (event (ev.RetransmitTimedOut o.from o.count) ∷ []) (stall_by s.config.retransmit_stall_policy now stamp o s b)
 
-abbrev pub stall_of : MaybeOutstanding → Instant → Nanotime → Sess → Binding → Did
-stall_of outstanding.None now stamp s b = stays s b []
-stall_of (outstanding.Some o) now stamp s b = on_stall now stamp o s b
+abbrev pub stall_of : Option Outstanding → Instant → Nanotime → Sess → Binding → Did
+stall_of None now stamp s b = stays s b []
+stall_of (Some o) now stamp s b = on_stall now stamp o s b
 
 unfoldable pub stall_if_due : Instant → Nanotime → Sess → Binding → Did
 stall_if_due now stamp s b = if is_due (stall_deadline s) now then stall_of s.outstanding now stamp s b else stays s b []
@@ -124,4 +121,4 @@ timeout_in (state.Closing deadline) now stamp reason s b =
     stays s b []
 
 unfoldable pub on_timeout : Instant → Nanotime → Reason → Sess → Binding → Did
-on_timeout now stamp reason s b = timeout_in b.state.it now stamp reason s b
+on_timeout now stamp reason s b = timeout_in b.state now stamp reason s b

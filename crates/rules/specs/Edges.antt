@@ -1,9 +1,8 @@
 -- 01's nine edges, both sides of each, as one table with one theorem: each row holds by computing the calls' own rules.
-use Rattle.std.specs.Prelude.{ℕ, zero, suc, ◌+◌, refl, List, [], ◌∷◌}
-use Rattle.types.specs.Base.{same_id, deadline_at}
+use Rattle.std.specs.Prelude.{ℕ, zero, suc, ◌+◌, refl, List, [], ◌∷◌, Some}
+use Rattle.types.specs.Base.{deadline_at}
 use Rattle.types.specs.Reasons.{no_text}
 use Rattle.rules.specs.Names.{Output}
-use Rattle.rules.specs.Names.seq
 use Rattle.rules.specs.Names.status
 use Rattle.rules.specs.Names.rejection
 use Rattle.rules.specs.Names.policy
@@ -34,7 +33,7 @@ abbrev range_refused : List Output
 range_refused = send_with (message.RetransmitReject (record { session_id = self; request_timestamp = stamped 9; code = rejection.OutOfRange })) 33 ∷ event_with (ev.Refused name.RetransmitReject) 33 ∷ []
 
 abbrev finish_seen : ℕ → Output
-finish_seen last = event (ev.PeerFinishedSending (seq.Some (num last)))
+finish_seen last = event (ev.PeerFinishedSending (Some (num last)))
 
 -- of a bound session that expects 1: 1, 3 and 5 arrive, 2 and 4 are gaps
 abbrev two_gaps : List Call → List Call
@@ -92,5 +91,5 @@ edges =
     ∷ []
 
 pub edges-right : AllRight edges
-unfolding ran call sound config_fits queued saying answering and_then no_text same_id deadline_at append_gap record_gap later_of widen hold_refused_gap consume_missing release_binding_state fail violation fewer ask request_missing maybe_finish_receiving allocate_outbound gap_held gap_recorded on_gap stop_replay announced on_next_seq number_live on_live on_application refuse_retransmit is_sent serve on_retransmit_request finished_with finished_sending on_finished_sending new_session resume on_established bind on_context on_peer send_refused send_application
+unfolding ran call sound config_fits queued saying answering and_then no_text deadline_at append_gap record_gap later_of widen hold_refused_gap consume_missing release_binding_state fail violation fewer ask request_missing maybe_finish_receiving allocate_outbound gap_held gap_recorded on_gap stop_replay announced on_next_seq number_live on_live on_application refuse_retransmit is_sent serve on_retransmit_request finished_with finished_sending on_finished_sending new_session resume on_established bind on_context on_peer send_refused send_application
 edges-right = (refl, (refl, (refl, (refl, (refl, (refl, (refl, (refl, (refl, (refl, (refl, (refl, (refl, (refl, (refl, (refl, (refl, (refl, (refl, (refl, (refl, (refl, (refl, tt)))))))))))))))))))))))

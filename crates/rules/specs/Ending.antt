@@ -1,18 +1,14 @@
 -- How a binding ends: what it leaves, a failure, a violation, and the peer's Terminate (FIXP 4.4 and 6.3).
-use Rattle.std.specs.Prelude.{ℕ, ◌+◌, Bool, true, false, not, ◌&&◌, [], ◌∷◌, if◌then◌else◌}
+use Rattle.std.specs.Prelude.{ℕ, ◌+◌, Bool, true, false, not, ◌&&◌, [], ◌∷◌, if◌then◌else◌, Option, Some, None}
 use Rattle.types.specs.Base.{same_id, deadline_at}
 use Rattle.types.specs.Flows.{is_finished}
 use Rattle.types.specs.States.{is_established, with_state}
-use Rattle.rules.specs.Names.{Instant, TerminationCode, Reason, Terminate, BindState, Binding, MaybeOutstanding, MaybePeerFinished}
+use Rattle.rules.specs.Names.{Instant, TerminationCode, Reason, Terminate, BindState, Binding, Outstanding, PeerFinished}
 use Rattle.rules.specs.Names.code
 use Rattle.rules.specs.Names.message
 use Rattle.rules.specs.Names.event as ev
 use Rattle.rules.specs.Names.by
 use Rattle.rules.specs.Names.state
-use Rattle.rules.specs.Names.outstanding
-use Rattle.rules.specs.Names.replay
-use Rattle.rules.specs.Names.provider
-use Rattle.rules.specs.Names.finished
 use Rattle.rules.specs.State.{Sess, with_gaps, with_outstanding, with_replay, with_awaiting, with_provider, with_finalized, Did, ends, stays, saying}
 use Rattle.rules.specs.Outputs.{send, send_with, event_with, event_quoting, close_transport}
 use Rattle.rules.specs.Gaps.{consume_missing}
@@ -22,17 +18,17 @@ abbrev pub consumed : ℕ → Sess → Sess
 consumed count s = with_gaps (consume_missing count s.gaps) s
 
 -- "Release consumes what was delivered"
-abbrev pub released_at : MaybeOutstanding → Sess → Sess
-released_at outstanding.None s = s
-released_at (outstanding.Some o) s = consumed o.delivered (with_outstanding outstanding.None s)
+abbrev pub released_at : Option Outstanding → Sess → Sess
+released_at None s = s
+released_at (Some o) s = consumed o.delivered (with_outstanding None s)
 
 unfoldable pub release_binding_state : Sess → Sess
-release_binding_state s = with_provider provider.None (with_awaiting false (with_replay replay.None (released_at s.outstanding s)))
+release_binding_state s = with_provider None (with_awaiting false (with_replay None (released_at s.outstanding s)))
 
 -- FinishedReceiving has gone out
-abbrev pub sent_at : MaybePeerFinished → Bool
-sent_at finished.None = false
-sent_at (finished.Some f) = f.receiving_sent
+abbrev pub sent_at : Option PeerFinished → Bool
+sent_at None = false
+sent_at (Some f) = f.receiving_sent
 
 abbrev pub finished_receiving_sent : Sess → Bool
 finished_receiving_sent s = sent_at s.peer_finished
@@ -44,7 +40,7 @@ finalize_if_finished s = if finished_receiving_sent s then with_finalized true s
 unfoldable pub fail : TerminationCode → ℕ → Sess → Binding → Did
 fail code n s b =
     ends (release_binding_state s) b
-    (if is_established b.state.it
+    (if is_established b.state
     then send_with (message.Terminate (record { session_id = s.id; code = code })) n ∷ event_with (ev.Terminated code by.Local) n ∷ close_transport ∷ []
     else close_transport ∷ [])
 
@@ -76,4 +72,4 @@ terminate_at (state.Closing d) now reason m text s b = stays s b []
 unfoldable pub on_terminate : Instant → Reason → Terminate → Reason → Sess → Binding → Did
 on_terminate now reason m text s b =
     if not (same_id m.session_id s.id) then violation 34 s b else
-    terminate_at b.state.it now reason m text s b
+    terminate_at b.state now reason m text s b

@@ -1,7 +1,6 @@
 -- 01, "Gaps": the list of gaps and the list of overflow runs.
-use Rattle.std.specs.Prelude.{ℕ, ◌+◌, Bool, true, false, List, [], ◌∷◌, ◌++◌, length, ltb, leb, eqb, if◌then◌else◌}
-use Rattle.rules.specs.Names.{SeqNum, Gap, MaybeGap}
-use Rattle.rules.specs.Names.gap
+use Rattle.std.specs.Prelude.{ℕ, ◌+◌, Bool, true, false, List, [], ◌∷◌, ◌++◌, length, ltb, leb, eqb, if◌then◌else◌, Option, Some, None}
+use Rattle.rules.specs.Names.{SeqNum, Gap}
 use Rattle.rules.specs.Lists.{rest, front_of, back_of, set_back, drop_below}
 use Rattle.rules.specs.State.{Lists}
 
@@ -33,9 +32,9 @@ appended from end g = lists (g.missing ++ (gap_of from end ∷ [])) g.overflow_r
 unfoldable pub append_gap : ℕ → SeqNum → SeqNum → Lists → Kept
 append_gap max from end g = if leb max (length g.missing) then kept g false else kept (appended from end g) true
 
-abbrev pub record_at : MaybeGap → ℕ → SeqNum → SeqNum → Lists → Kept
-record_at gap.None max from end g = append_gap max from end g
-record_at (gap.Some last) max from end g =
+abbrev pub record_at : Option Gap → ℕ → SeqNum → SeqNum → Lists → Kept
+record_at None max from end g = append_gap max from end g
+record_at (Some last) max from end g =
     if eqb last.end.0 from.0 then kept (lists (set_back g.missing (gap_of last.from end)) g.overflow_received) true else
     append_gap max from end g
 
@@ -51,9 +50,9 @@ unfoldable pub widen : Gap → SeqNum → Lists → Lists
 widen last end g = lists (set_back g.missing (gap_of last.from (later_of last.end end))) g.overflow_received
 
 -- "joined to it with the numbers received between kept as an overflow run"; "A 257th run is refused"
-abbrev pub hold_at : MaybeGap → SeqNum → SeqNum → Lists → Kept
-hold_at gap.None from end g = kept (appended from end g) true
-hold_at (gap.Some last) from end g =
+abbrev pub hold_at : Option Gap → SeqNum → SeqNum → Lists → Kept
+hold_at None from end g = kept (appended from end g) true
+hold_at (Some last) from end g =
     if leb from.0 last.end.0 then kept (widen last end g) true else
     (if leb max_runs (length g.overflow_received) then kept g false else
     kept (widen last end (lists g.missing (g.overflow_received ++ (gap_of last.end from ∷ [])))) true)
@@ -69,9 +68,9 @@ pub record Seen : Type 0 where
   pub gaps : Lists
   pub duplicate : Bool
 
-abbrev pub starts_by : MaybeGap → ℕ → Bool
-starts_by gap.None n = false
-starts_by (gap.Some run) n = leb run.from.0 n
+abbrev pub starts_by : Option Gap → ℕ → Bool
+starts_by None n = false
+starts_by (Some run) n = leb run.from.0 n
 
 -- "a number in an overflow run is discarded"; the runs wholly below it are dropped
 unfoldable pub received_in_overflow : SeqNum → Lists → Seen
@@ -89,9 +88,9 @@ runs_with (g ∷ l) runs = runs
 unfoldable pub drop_first : Lists → Lists
 drop_first g = lists (rest g.missing) (runs_with (rest g.missing) g.overflow_received)
 
-abbrev pub consume_at : MaybeGap → ℕ → Lists → Lists
-consume_at gap.None count g = g
-consume_at (gap.Some first) count g =
+abbrev pub consume_at : Option Gap → ℕ → Lists → Lists
+consume_at None count g = g
+consume_at (Some first) count g =
     if ltb (first.from.0 + count) first.end.0 then lists (gap_of (record { 0 = first.from.0 + count }) first.end ∷ rest g.missing) g.overflow_received else
     drop_first g
 

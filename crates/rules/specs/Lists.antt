@@ -1,7 +1,6 @@
 -- A list of gaps at its two ends. The code has rings where the rules have lists.
-use Rattle.std.specs.Prelude.{ℕ, Bool, true, false, List, [], ◌∷◌, leb, if◌then◌else◌}
-use Rattle.rules.specs.Names.{Gap, MaybeGap}
-use Rattle.rules.specs.Names.gap
+use Rattle.std.specs.Prelude.{ℕ, Bool, true, false, List, [], ◌∷◌, leb, if◌then◌else◌, Option, Some, None}
+use Rattle.rules.specs.Names.{Gap}
 
 abbrev pub is_nil : {A : Type 0} → List A → Bool
 is_nil [] = true
@@ -12,13 +11,13 @@ abbrev pub rest : {A : Type 0} → List A → List A
 rest [] = []
 rest (x ∷ l) = l
 
-abbrev pub front_of : List Gap → MaybeGap
-front_of [] = gap.None
-front_of (g ∷ l) = gap.Some g
+abbrev pub front_of : List Gap → Option Gap
+front_of [] = None
+front_of (g ∷ l) = Some g
 
-abbrev pub back_of : List Gap → MaybeGap
-back_of [] = gap.None
-back_of (g ∷ []) = gap.Some g
+abbrev pub back_of : List Gap → Option Gap
+back_of [] = None
+back_of (g ∷ []) = Some g
 back_of (g ∷ h ∷ l) = back_of (h ∷ l)
 
 -- the last becomes x

@@ -3,10 +3,6 @@ pub use Rattle.types.specs.declared.ids.SeqNum.{SeqNum}
 pub use Rattle.types.specs.declared.ids.Nanotime.{Nanotime}
 pub use Rattle.types.specs.declared.ids.Instant.{Instant}
 pub use Rattle.types.specs.declared.ids.SessionId.{SessionId}
-pub use Rattle.types.specs.declared.ids.MaybeSeq.{MaybeSeq}
-pub use Rattle.types.specs.declared.ids.MaybeSeq.TheVariants as seq
-pub use Rattle.types.specs.declared.ids.MaybeInstant.{MaybeInstant}
-pub use Rattle.types.specs.declared.ids.MaybeInstant.TheVariants as instant
 pub use Rattle.types.specs.declared.ids.FlowType.{FlowType}
 pub use Rattle.types.specs.declared.ids.FlowType.TheVariants as flow
 pub use Rattle.types.specs.declared.ids.TerminationCode.{TerminationCode}
@@ -14,8 +10,6 @@ pub use Rattle.types.specs.declared.ids.TerminationCode.TheVariants as code
 pub use Rattle.types.specs.declared.ids.RetransmitRejectCode.{RetransmitRejectCode}
 pub use Rattle.types.specs.declared.ids.RetransmitRejectCode.TheVariants as rejection
 pub use Rattle.types.specs.declared.config.FixpConfig.{FixpConfig}
-pub use Rattle.types.specs.declared.config.MaybeDuration.{MaybeDuration}
-pub use Rattle.types.specs.declared.config.MaybeDuration.TheVariants as duration
 pub use Rattle.types.specs.declared.config.RetransmitStallPolicy.{RetransmitStallPolicy}
 pub use Rattle.types.specs.declared.config.RetransmitStallPolicy.TheVariants as policy
 pub use Rattle.types.specs.declared.reasons.Reason.{Reason}
@@ -50,24 +44,12 @@ pub use Rattle.types.specs.declared.binding.Bound.TheVariants as bound
 pub use Rattle.types.specs.declared.binding.BindState.{BindState}
 pub use Rattle.types.specs.declared.binding.BindState.TheVariants as state
 pub use Rattle.types.specs.declared.binding.Binding.{Binding}
-pub use Rattle.types.specs.declared.binding.MaybeBinding.{MaybeBinding}
-pub use Rattle.types.specs.declared.binding.MaybeBinding.TheVariants as linked
 pub use Rattle.types.specs.declared.binding.Link.{Link}
 pub use Rattle.types.specs.declared.parts.Gap.{Gap}
-pub use Rattle.types.specs.declared.parts.MaybeGap.{MaybeGap}
-pub use Rattle.types.specs.declared.parts.MaybeGap.TheVariants as gap
 pub use Rattle.types.specs.declared.parts.Outstanding.{Outstanding}
-pub use Rattle.types.specs.declared.parts.MaybeOutstanding.{MaybeOutstanding}
-pub use Rattle.types.specs.declared.parts.MaybeOutstanding.TheVariants as outstanding
 pub use Rattle.types.specs.declared.parts.PeerFinished.{PeerFinished}
-pub use Rattle.types.specs.declared.parts.MaybePeerFinished.{MaybePeerFinished}
-pub use Rattle.types.specs.declared.parts.MaybePeerFinished.TheVariants as finished
 pub use Rattle.types.specs.declared.parts.Replay.{Replay}
-pub use Rattle.types.specs.declared.parts.MaybeReplay.{MaybeReplay}
-pub use Rattle.types.specs.declared.parts.MaybeReplay.TheVariants as replay
 pub use Rattle.types.specs.declared.parts.Provider.{Provider}
-pub use Rattle.types.specs.declared.parts.MaybeProvider.{MaybeProvider}
-pub use Rattle.types.specs.declared.parts.MaybeProvider.TheVariants as provider
 pub use Rattle.types.specs.declared.answers.Delivery.{Delivery}
 pub use Rattle.types.specs.declared.answers.Delivery.TheVariants as delivery
 pub use Rattle.types.specs.declared.answers.RetransmitBatch.{RetransmitBatch}
@@ -77,5 +59,6 @@ pub use Rattle.types.specs.declared.answers.Operation.{Operation}
 pub use Rattle.types.specs.declared.answers.Operation.TheVariants as operation
 pub use Rattle.types.specs.declared.answers.Refusal.{Refusal}
 pub use Rattle.types.specs.declared.answers.Refusal.TheVariants as refusal
-pub use Rattle.types.specs.declared.answers.Answer.{Answer}
-pub use Rattle.types.specs.declared.answers.Answer.TheVariants as answer
+pub use Rattle.types.specs.declared.answers.Verdict.{Verdict}
+pub use Rattle.types.specs.declared.answers.Verdict.TheVariants as verdict
+pub use Rattle.types.specs.Answers.{Answer}

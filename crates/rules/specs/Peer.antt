@@ -1,5 +1,5 @@
 -- A session message of the peer, by its kind.
-use Rattle.std.specs.Prelude.{Bool, true, false, not, [], ◌∷◌, ◌++◌, eqb, if◌then◌else◌}
+use Rattle.std.specs.Prelude.{Bool, true, false, not, [], ◌∷◌, ◌++◌, eqb, if◌then◌else◌, Ok, Err}
 use Rattle.types.specs.Base.{all_ones, same_id}
 use Rattle.types.specs.Flows.{is_sequenced, is_idempotent}
 use Rattle.types.specs.States.{is_closing, with_received}
@@ -9,7 +9,7 @@ use Rattle.rules.specs.Names.peer
 use Rattle.rules.specs.Names.event as ev
 use Rattle.rules.specs.Names.bound
 use Rattle.rules.specs.Names.delivery
-use Rattle.rules.specs.Names.answer
+use Rattle.rules.specs.Names.verdict
 use Rattle.rules.specs.State.{Sess, Did, did, stays, answering}
 use Rattle.rules.specs.Outputs.{event, event_with}
 use Rattle.rules.specs.Ending.{violation, on_terminate}
@@ -31,12 +31,12 @@ on_unsequenced_heartbeat s b =
     stays s b []
 
 abbrev pub is_accept : Answer → Bool
-is_accept answer.Ok = false
-is_accept (answer.Delivered delivery.Discard) = false
-is_accept (answer.Delivered (delivery.Accept n r)) = true
-is_accept (answer.Sent n) = false
-is_accept (answer.Batch b) = false
-is_accept (answer.Refused r) = false
+is_accept (Ok verdict.Done) = false
+is_accept (Ok (verdict.Delivered delivery.Discard)) = false
+is_accept (Ok (verdict.Delivered (delivery.Accept n r))) = true
+is_accept (Ok (verdict.Sent n)) = false
+is_accept (Ok (verdict.Batch b)) = false
+is_accept (Err r) = false
 
 -- an event that follows everything else of an accepted message
 unfoldable pub reporting : Event → Did → Did
@@ -86,5 +86,5 @@ is_delivery peer.MessageTemplate = false
 -- "Closing ignores every peer and application message and leaves `last_received`; otherwise that becomes now first."
 unfoldable pub on_peer : PeerMessage → Instant → Nanotime → Reason → Reason → Sess → Binding → Did
 on_peer m now stamp reason text s b =
-    if is_closing b.state.it then did s b (event_with (ev.Ignored (name_of m)) 1 ∷ []) bound.Stay (if is_delivery m then discard else answer.Ok) else
+    if is_closing b.state then did s b (event_with (ev.Ignored (name_of m)) 1 ∷ []) bound.Stay (if is_delivery m then discard else (Ok verdict.Done)) else
     on_message m now stamp reason text s (with_received now b)

@@ -1,7 +1,7 @@
 -- Slips that a rule book could have, each shut out by worked cases on both sides of it: one table with one theorem, by computing the
 -- calls' own rules. For each there is an edit in must-fail/ that makes the slip (docs/EDGES.md).
 use Rattle.std.specs.Prelude.{ℕ, refl, List, [], ◌∷◌}
-use Rattle.types.specs.Base.{same_id, deadline_at}
+use Rattle.types.specs.Base.{deadline_at}
 use Rattle.types.specs.Reasons.{no_text}
 use Rattle.rules.specs.Names.{Output}
 use Rattle.rules.specs.Names.status
@@ -115,5 +115,5 @@ slips =
     ∷ []
 
 pub slips-right : AllRight slips
-unfolding ran call sound config_fits queued saying answering and_then no_text same_id deadline_at append_gap record_gap later_of widen hold_refused_gap received_in_overflow drop_first consume_missing release_binding_state fail violation fewer ask request_missing maybe_finish_receiving recovered complete_outstanding in_range on_retransmission on_retransmit_reject re_request allocate_outbound gap_held gap_recorded on_gap stop_replay announced on_next_seq replay_after count_delivered complete_if replayed_counted on_replayed number_live on_live on_application new_session resume on_established bind on_context on_peer send_refused send_application silence_deadline stall_deadline heartbeat_deadline heartbeat heartbeat_if_due wait_out on_stall stall_if_due established_timeout on_timeout
+unfolding ran call sound config_fits queued saying answering and_then no_text deadline_at append_gap record_gap later_of widen hold_refused_gap received_in_overflow drop_first consume_missing release_binding_state fail violation fewer ask request_missing maybe_finish_receiving recovered complete_outstanding in_range on_retransmission on_retransmit_reject re_request allocate_outbound gap_held gap_recorded on_gap stop_replay announced on_next_seq replay_after count_delivered complete_if replayed_counted on_replayed number_live on_live on_application new_session resume on_established bind on_context on_peer send_refused send_application silence_deadline stall_deadline heartbeat_deadline heartbeat heartbeat_if_due wait_out on_stall stall_if_due established_timeout on_timeout
 slips-right = (refl, (refl, (refl, (refl, (refl, (refl, (refl, (refl, (refl, (refl, (refl, (refl, (refl, (refl, (refl, (refl, (refl, (refl, (refl, (refl, (refl, (refl, (refl, (refl, (refl, (refl, (refl, (refl, (refl, (refl, (refl, (refl, (refl, (refl, (refl, (refl, (refl, (refl, (refl, (refl, (refl, (refl, (refl, (refl, (refl, tt)))))))))))))))))))))))))))))))))))))))))))))

@@ -1,11 +1,11 @@
 -- The state as a reader of 01 thinks of it: the session with lists for rings, the queue as a list with its closing flag, and what a
 -- step does.
-use Rattle.std.specs.Prelude.{Bool, true, false, ◌||◌, List, [], ◌∷◌, ◌++◌, if◌then◌else◌}
+use Rattle.std.specs.Prelude.{Bool, true, false, ◌||◌, List, [], ◌∷◌, ◌++◌, if◌then◌else◌, Option, Ok}
 use Rattle.types.specs.States.{is_stay}
-use Rattle.rules.specs.Names.{SeqNum, SessionId, MaybeSeq, FlowType, FixpConfig, Output, Said, Bound, Binding, Gap, MaybeOutstanding, MaybePeerFinished, MaybeReplay, MaybeProvider, Answer}
+use Rattle.rules.specs.Names.{SeqNum, SessionId, FlowType, FixpConfig, Output, Said, Bound, Binding, Gap, Outstanding, PeerFinished, Replay, Provider, Answer}
 use Rattle.rules.specs.Names.bound
 use Rattle.rules.specs.Names.said
-use Rattle.rules.specs.Names.answer
+use Rattle.rules.specs.Names.verdict
 
 -- the unrecovered gaps, in order, and the overflow runs: numbers already received inside the last gap, in order
 pub record Lists : Type 0 where
@@ -18,17 +18,17 @@ pub record Sess : Type 0 where
   pub remote_flow : FlowType
   pub config : FixpConfig
   pub outbound_next : SeqNum
-  pub inbound_next : MaybeSeq
+  pub inbound_next : Option SeqNum
   pub start_pending : Bool
   pub gaps : Lists
-  pub outstanding : MaybeOutstanding
-  pub replay : MaybeReplay
+  pub outstanding : Option Outstanding
+  pub replay : Option Replay
   pub awaiting_resume : Bool
-  pub provider : MaybeProvider
-  pub peer_finished : MaybePeerFinished
+  pub provider : Option Provider
+  pub peer_finished : Option PeerFinished
   pub finalized : Bool
 
-abbrev pub sess : SessionId → FlowType → FlowType → FixpConfig → SeqNum → MaybeSeq → Bool → Lists → MaybeOutstanding → MaybeReplay → Bool → MaybeProvider → MaybePeerFinished → Bool → Sess
+abbrev pub sess : SessionId → FlowType → FlowType → FixpConfig → SeqNum → Option SeqNum → Bool → Lists → Option Outstanding → Option Replay → Bool → Option Provider → Option PeerFinished → Bool → Sess
 sess id l r c out next start g o p w v f z =
     record {
       id = id;
@@ -51,7 +51,7 @@ sess id l r c out next start g o p w v f z =
 abbrev pub with_outbound : SeqNum → Sess → Sess
 with_outbound n s = sess s.id s.local_flow s.remote_flow s.config n s.inbound_next s.start_pending s.gaps s.outstanding s.replay s.awaiting_resume s.provider s.peer_finished s.finalized
 
-abbrev pub with_inbound : MaybeSeq → Sess → Sess
+abbrev pub with_inbound : Option SeqNum → Sess → Sess
 with_inbound n s = sess s.id s.local_flow s.remote_flow s.config s.outbound_next n s.start_pending s.gaps s.outstanding s.replay s.awaiting_resume s.provider s.peer_finished s.finalized
 
 abbrev pub with_start : Bool → Sess → Sess
@@ -60,19 +60,19 @@ with_start t s = sess s.id s.local_flow s.remote_flow s.config s.outbound_next s
 abbrev pub with_gaps : Lists → Sess → Sess
 with_gaps g s = sess s.id s.local_flow s.remote_flow s.config s.outbound_next s.inbound_next s.start_pending g s.outstanding s.replay s.awaiting_resume s.provider s.peer_finished s.finalized
 
-abbrev pub with_outstanding : MaybeOutstanding → Sess → Sess
+abbrev pub with_outstanding : Option Outstanding → Sess → Sess
 with_outstanding o s = sess s.id s.local_flow s.remote_flow s.config s.outbound_next s.inbound_next s.start_pending s.gaps o s.replay s.awaiting_resume s.provider s.peer_finished s.finalized
 
-abbrev pub with_replay : MaybeReplay → Sess → Sess
+abbrev pub with_replay : Option Replay → Sess → Sess
 with_replay p s = sess s.id s.local_flow s.remote_flow s.config s.outbound_next s.inbound_next s.start_pending s.gaps s.outstanding p s.awaiting_resume s.provider s.peer_finished s.finalized
 
 abbrev pub with_awaiting : Bool → Sess → Sess
 with_awaiting w s = sess s.id s.local_flow s.remote_flow s.config s.outbound_next s.inbound_next s.start_pending s.gaps s.outstanding s.replay w s.provider s.peer_finished s.finalized
 
-abbrev pub with_provider : MaybeProvider → Sess → Sess
+abbrev pub with_provider : Option Provider → Sess → Sess
 with_provider v s = sess s.id s.local_flow s.remote_flow s.config s.outbound_next s.inbound_next s.start_pending s.gaps s.outstanding s.replay s.awaiting_resume v s.peer_finished s.finalized
 
-abbrev pub with_peer_finished : MaybePeerFinished → Sess → Sess
+abbrev pub with_peer_finished : Option PeerFinished → Sess → Sess
 with_peer_finished f s = sess s.id s.local_flow s.remote_flow s.config s.outbound_next s.inbound_next s.start_pending s.gaps s.outstanding s.replay s.awaiting_resume s.provider f s.finalized
 
 abbrev pub with_finalized : Bool → Sess → Sess
@@ -110,10 +110,10 @@ did s b o u a = record { session = s; binding = b; outs = o; bound = u; answer =
 
 -- the binding stands; it ends
 abbrev pub stays : Sess → Binding → List Output → Did
-stays s b o = did s b o bound.Stay answer.Ok
+stays s b o = did s b o bound.Stay (Ok verdict.Done)
 
 abbrev pub ends : Sess → Binding → List Output → Did
-ends s b o = did s b o bound.Unbind answer.Ok
+ends s b o = did s b o bound.Unbind (Ok verdict.Done)
 
 -- outputs that come before a step's own
 unfoldable pub saying : List Output → Did → Did

@@ -1,20 +1,18 @@
 -- What a worked case is: a world, calls one after another, and what the last of them answers and leaves. The calls and outputs of the
 -- cases by short names.
-use Rattle.std.specs.Prelude.{ℕ, zero, suc, ◌≡◌, List, [], ◌∷◌, ◌++◌, length}
+use Rattle.std.specs.Prelude.{ℕ, zero, suc, ◌≡◌, List, [], ◌∷◌, ◌++◌, length, Some, None, Ok}
 use Rattle.types.specs.Reasons.{no_text}
 use Rattle.types.specs.States.{link_status}
 use Rattle.rules.specs.Names.{SeqNum, SessionId, Nanotime, Instant, FixpConfig, RetransmitStallPolicy, PeerMessage, Output, Gap, SessionStatus}
-use Rattle.rules.specs.Names.seq
 use Rattle.rules.specs.Names.flow
 use Rattle.rules.specs.Names.code
-use Rattle.rules.specs.Names.duration
 use Rattle.rules.specs.Names.policy
 use Rattle.rules.specs.Names.peer
 use Rattle.rules.specs.Names.rejection
 use Rattle.rules.specs.Names.message
 use Rattle.rules.specs.Names.event as ev
 use Rattle.rules.specs.Names.by
-use Rattle.rules.specs.Names.answer
+use Rattle.rules.specs.Names.verdict
 use Rattle.rules.specs.Outputs.{send, send_with, event, event_with, close_transport}
 use Rattle.rules.specs.Gaps.{gap_of}
 use Rattle.rules.specs.Answers.{Told, told, numbers}
@@ -53,7 +51,7 @@ ran r [] = r
 ran r (c ∷ cs) = ran (call c (emptied r.world)) cs
 
 abbrev pub after : World → List Call → Ran
-after w cs = ran (record { world = w; answer = answer.Ok }) cs
+after w cs = ran (record { world = w; answer = Ok verdict.Done }) cs
 
 abbrev pub line_of : Ran → Line
 line_of r =
@@ -89,7 +87,7 @@ configured gaps stall =
       max_retransmit_count = 10;
       max_pending_gaps = gaps;
       retransmit_timeout = 1000;
-      peer_silence_grace = duration.Some 1000;
+      peer_silence_grace = Some 1000;
       retransmit_stall_policy = stall;
     }
 
@@ -109,10 +107,10 @@ stamped n = record { 0 = n }
 
 -- a bind with no number of the peer, and with one
 abbrev pub joins : Call
-joins = bind_call (at 0) (stamped 7) 1000 1000 seq.None
+joins = bind_call (at 0) (stamped 7) 1000 1000 None
 
 abbrev pub binds : ℕ → Call
-binds n = bind_call (at 0) (stamped 7) 1000 1000 (seq.Some (num n))
+binds n = bind_call (at 0) (stamped 7) 1000 1000 (Some (num n))
 
 abbrev pub says : PeerMessage → Call
 says m = peer_call (at 0) (stamped 7) m no_text
@@ -124,7 +122,7 @@ abbrev pub context : ℕ → Call
 context n = says (peer.Context (record { session_id = self; next_seq_no = num n }))
 
 abbrev pub finishes : ℕ → Call
-finishes last = says (peer.FinishedSending (record { session_id = self; last_seq_no = seq.Some (num last) }))
+finishes last = says (peer.FinishedSending (record { session_id = self; last_seq_no = Some (num last) }))
 
 -- the peer asks: from, count
 abbrev pub asks : ℕ → ℕ → Call

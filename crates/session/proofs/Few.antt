@@ -1,5 +1,5 @@
 -- How many outputs a step adds that leaves the binding standing: few enough that another step has room after it.
-use Rattle.std.specs.Prelude.{if◌then◌else◌}
+use Rattle.std.specs.Prelude.{if◌then◌else◌, Option, Some, None}
 use Prim.Native.Nat.{ℕ, ◌+◌, ◌-◌, ◌≤◌, ◌^◌}
 use mathlib.Core.Path.{◌≡◌}
 use mathlib.Core.Bool.{Bool, true, false, not, ◌&&◌, ◌||◌, false≢true}
@@ -10,13 +10,9 @@ use lib.Dec.{ltb, leb, eqb}
 use Rattle.types.specs.Base.{all_ones}
 use Rattle.types.specs.Flows.{is_sequenced, is_recoverable}
 use Rattle.types.specs.States.{is_stay, is_established, is_closing, with_received}
-use Rattle.rules.specs.Names.{SeqNum, Nanotime, Instant, MaybeSeq, FlowType, TerminationCode, NotApplied, MaybeGap, MaybeReplay, MaybePeerFinished, Output, Binding}
-use Rattle.rules.specs.Names.seq
+use Rattle.rules.specs.Names.{SeqNum, Nanotime, Instant, FlowType, TerminationCode, NotApplied, Gap, Replay, PeerFinished, Output, Binding}
 use Rattle.rules.specs.Names.flow
-use Rattle.rules.specs.Names.gap
 use Rattle.rules.specs.Names.code
-use Rattle.rules.specs.Names.replay
-use Rattle.rules.specs.Names.finished
 use Rattle.rules.specs.Lists.{is_nil, front_of}
 use Rattle.rules.specs.State.{Sess, Did, saying, answering, with_inbound, with_start, with_gaps, with_replay}
 use Rattle.rules.specs.Outputs.{close_transport}
@@ -24,8 +20,7 @@ use Rattle.rules.specs.Gaps.{record_gap, hold_refused_gap, received_in_overflow}
 use Rattle.rules.specs.Ending.{fail, violation}
 use Rattle.rules.specs.Asking.{is_outstanding, ask, ask_for, request_missing, finish_at, maybe_finish_receiving, recovered, complete_outstanding}
 use Rattle.rules.specs.Numbering.{outbound_exhausted, allocate_outbound, send_application_of, not_applied_numbered, not_applied_on, send_not_applied, gap_held, gap_recorded, gap_reported, gap_on, on_gap, past_finished, stop_replay, announced_to, announced, on_next_seq, discard, replay_after, Counted, count_delivered, complete_if, replayed_counted, on_replayed, numbered_as, number_live, live_on, is_peer_finished, on_live, arrived_in, on_application}
-use Rattle.rules.specs.Names.{Outstanding, MaybeOutstanding, RetransmitStallPolicy}
-use Rattle.rules.specs.Names.outstanding
+use Rattle.rules.specs.Names.{Outstanding, RetransmitStallPolicy}
 use Rattle.rules.specs.Names.policy
 use Rattle.rules.specs.Asking.{re_request}
 use Rattle.rules.specs.Deadlines.{stall_deadline, is_due, wait_out, stall_by, on_stall, stall_of, stall_if_due}
@@ -57,22 +52,22 @@ violation-few k n s b = record { few = λ e. absurd (false≢true e) }
 pub request-few : (now : Instant) (stamp : Nanotime) (s : Sess) (b : Binding) → Few 1 (request_missing now stamp s b)
 unfolding request_missing ask
 request-few now stamp s b =
-    by-if 1 (is_established b.state.it && is_recoverable s.remote_flow && not (is_outstanding s.outstanding)) _ _ (go (front_of s.gaps.missing)) (record { few = λ e. omega arith })
+    by-if 1 (is_established b.state && is_recoverable s.remote_flow && not (is_outstanding s.outstanding)) _ _ (go (front_of s.gaps.missing)) (record { few = λ e. omega arith })
   where
-    go : (g : MaybeGap) → Few 1 (ask_for g now stamp s b)
-    go gap.None = record { few = λ e. omega arith }
-    go (gap.Some g) =
+    go : (g : Option Gap) → Few 1 (ask_for g now stamp s b)
+    go None = record { few = λ e. omega arith }
+    go (Some g) =
         by-if 1 (leb g.end.0 g.from.0) _ _ (record { few = λ e. omega arith })
         (by-if 1 (eqb stamp.0 all_ones) _ _ (fail-few 1 _ _ s b) (record { few = λ e. omega arith }))
 
 pub not-applied-few : (now : Instant) (m : NotApplied) (s : Sess) (b : Binding) → Few 2 (send_not_applied now m s b)
 unfolding send_not_applied saying
-not-applied-few now m s b = by-if 2 (not (is_established b.state.it)) _ _ (record { few = λ e. omega arith }) (go s.local_flow)
+not-applied-few now m s b = by-if 2 (not (is_established b.state)) _ _ (record { few = λ e. omega arith }) (go s.local_flow)
   where
     numbered : Few 2 (not_applied_numbered now m s b)
     numbered =
         by-if 2 (outbound_exhausted s) _ _ (fail-few 2 _ _ s b)
-        (record { few = λ e. let h = allocate-few s b in let l = length-append (allocate_outbound s b).outs (send_application_of (seq.Some s.outbound_next) m ∷ []) in omega (arith, l) })
+        (record { few = λ e. let h = allocate-few s b in let l = length-append (allocate_outbound s b).outs (send_application_of (Some s.outbound_next) m ∷ []) in omega (arith, l) })
 
     go : (f : FlowType) → Few 2 (not_applied_on f now m s b)
     go flow.None = record { few = λ e. omega arith }
@@ -88,10 +83,10 @@ gap-few now stamp from next s b = saying-few 2 _ _ (go s.remote_flow)
     go flow.Recoverable =
         let k = record_gap s.config.max_pending_gaps from next s.gaps in
         let h = hold_refused_gap s.config.max_pending_gaps from next k.gaps in
-        by-if 2 k.ok _ _ (more 1 2 _ (omega arith) (request-few now stamp (with_inbound (seq.Some next) (with_gaps k.gaps s)) b))
-        (by-if 2 h.ok _ _ (violation-few 2 18 (with_inbound (seq.Some next) (with_gaps h.gaps s)) b) (violation-few 2 18 (with_gaps h.gaps s) b))
+        by-if 2 k.ok _ _ (more 1 2 _ (omega arith) (request-few now stamp (with_inbound (Some next) (with_gaps k.gaps s)) b))
+        (by-if 2 h.ok _ _ (violation-few 2 18 (with_inbound (Some next) (with_gaps h.gaps s)) b) (violation-few 2 18 (with_gaps h.gaps s) b))
     go flow.Idempotent =
-        by-if 2 (leb (2 ^ 32) (next.0 - from.0)) _ _ (violation-few 2 19 (with_inbound (seq.Some next) s) b) (not-applied-few now _ (with_inbound (seq.Some next) s) b)
+        by-if 2 (leb (2 ^ 32) (next.0 - from.0)) _ _ (violation-few 2 19 (with_inbound (Some next) s) b) (not-applied-few now _ (with_inbound (Some next) s) b)
     go flow.Unsequenced = record { few = λ e. omega arith }
     go flow.None = record { few = λ e. omega arith }
 
@@ -99,9 +94,9 @@ pub announced-few : (now : Instant) (stamp : Nanotime) (next : SeqNum) (s : Sess
 unfolding announced
 announced-few now stamp next s b = by-if 3 s.start_pending _ _ (record { few = λ e. omega arith }) (go s.inbound_next)
   where
-    go : (n : MaybeSeq) → Few 3 (announced_to n now stamp next s b)
-    go seq.None = record { few = λ e. omega arith }
-    go (seq.Some n) =
+    go : (n : Option SeqNum) → Few 3 (announced_to n now stamp next s b)
+    go None = record { few = λ e. omega arith }
+    go (Some n) =
         by-if 3 (ltb next.0 n.0) _ _ (violation-few 3 17 s b)
         (by-if 3 (eqb next.0 n.0) _ _ (record { few = λ e. omega arith })
         (by-if 3 (ltb s.config.max_gap_len (next.0 - n.0)) _ _ (violation-few 3 16 s b) (gap-few now stamp n next s b)))
@@ -124,7 +119,7 @@ most-if k false a b p q = q
 
 fail-most : (c : TerminationCode) (n : ℕ) (s : Sess) (b : Binding) → Most 3 (fail c n s b)
 unfolding fail
-fail-most c n s b = record { most = go (is_established b.state.it) _ _ }
+fail-most c n s b = record { most = go (is_established b.state) _ _ }
   where
     go : (t : Bool) (o p : Output) → length (if t then o ∷ p ∷ close_transport ∷ [] else close_transport ∷ []) ≤ 3
     go true o p = omega arith
@@ -137,11 +132,11 @@ violation-most n s b = record { most = let h = (fail-most code.UnspecifiedError 
 request-most : (now : Instant) (stamp : Nanotime) (s : Sess) (b : Binding) → Most 3 (request_missing now stamp s b)
 unfolding request_missing ask
 request-most now stamp s b =
-    most-if 3 (is_established b.state.it && is_recoverable s.remote_flow && not (is_outstanding s.outstanding)) _ _ (go (front_of s.gaps.missing)) (record { most = omega arith })
+    most-if 3 (is_established b.state && is_recoverable s.remote_flow && not (is_outstanding s.outstanding)) _ _ (go (front_of s.gaps.missing)) (record { most = omega arith })
   where
-    go : (g : MaybeGap) → Most 3 (ask_for g now stamp s b)
-    go gap.None = record { most = omega arith }
-    go (gap.Some g) =
+    go : (g : Option Gap) → Most 3 (ask_for g now stamp s b)
+    go None = record { most = omega arith }
+    go (Some g) =
         most-if 3 (leb g.end.0 g.from.0) _ _ (record { most = omega arith })
         (most-if 3 (eqb stamp.0 all_ones) _ _ (fail-most code.UnspecifiedError 20 s b) (record { most = omega arith }))
 
@@ -149,10 +144,10 @@ finish-most : (s : Sess) (b : Binding) → Most 1 (maybe_finish_receiving s b)
 unfolding maybe_finish_receiving
 finish-most s b = go s.peer_finished
   where
-    go : (f : MaybePeerFinished) → Most 1 (finish_at f s b)
-    go finished.None = record { most = omega arith }
-    go (finished.Some f) =
-        most-if 1 (f.receiving_sent || not (is_established b.state.it) || not (is_nil s.gaps.missing) || is_outstanding s.outstanding) _ _ (record { most = omega arith }) (record { most = omega arith })
+    go : (f : Option PeerFinished) → Most 1 (finish_at f s b)
+    go None = record { most = omega arith }
+    go (Some f) =
+        most-if 1 (f.receiving_sent || not (is_established b.state) || not (is_nil s.gaps.missing) || is_outstanding s.outstanding) _ _ (record { most = omega arith }) (record { most = omega arith })
 
 recovered-most : (now : Instant) (stamp : Nanotime) (s : Sess) (b : Binding) → Most 3 (recovered now stamp s b)
 unfolding recovered saying
@@ -166,7 +161,7 @@ complete-most t now stamp s b = most-if 3 t _ _ (recovered-most now stamp _ b) (
 -- an application message adds at most four outputs
 pub application-most : (now : Instant) (stamp : Nanotime) (s : Sess) (b : Binding) → Most 4 (on_application now stamp s b)
 unfolding on_application on_live number_live on_replayed replayed_counted answering
-application-most now stamp s b = most-if 4 (is_closing b.state.it) _ _ (record { most = omega arith }) (go s.replay)
+application-most now stamp s b = most-if 4 (is_closing b.state) _ _ (record { most = omega arith }) (go s.replay)
   where
     c : Binding
     c = with_received now b
@@ -174,9 +169,9 @@ application-most now stamp s b = most-if 4 (is_closing b.state.it) _ _ (record {
     discarded : (n : ℕ) (t : Sess) → Most 4 (answering discard (violation n t c))
     discarded n t = record { most = (violation-most n t c).most }
 
-    numbered : (x : MaybeSeq) (t : Sess) → Most 4 (numbered_as x t c)
-    numbered seq.None t = discarded 11 t
-    numbered (seq.Some n) t = most-if 4 (eqb n.0 all_ones) _ _ (discarded 12 t) (record { most = omega arith })
+    numbered : (x : Option SeqNum) (t : Sess) → Most 4 (numbered_as x t c)
+    numbered None t = discarded 11 t
+    numbered (Some n) t = most-if 4 (eqb n.0 all_ones) _ _ (discarded 12 t) (record { most = omega arith })
 
     live : (f : FlowType) → Most 4 (live_on f s c)
     live flow.None = discarded 9 s
@@ -190,9 +185,9 @@ application-most now stamp s b = most-if 4 (is_closing b.state.it) _ _ (record {
         let h = (complete-most k.complete now stamp (with_gaps seen.gaps k.session) c).most in
         record { most = omega arith }
 
-    go : (r : MaybeReplay) → Most 4 (arrived_in r now stamp s c)
-    go replay.None = most-if 4 (is_peer_finished s.peer_finished) _ _ (discarded 8 s) (live s.remote_flow)
-    go (replay.Some r) =
+    go : (r : Option Replay) → Most 4 (arrived_in r now stamp s c)
+    go None = most-if 4 (is_peer_finished s.peer_finished) _ _ (discarded 8 s) (live s.remote_flow)
+    go (Some r) =
         most-if 4 (eqb r.next.0 all_ones) _ _ (discarded 7 s) (counted (count_delivered now (leb r.remaining 1) (with_replay (replay_after r) s)) r.next)
 
 -- ---- a stall
@@ -215,6 +210,6 @@ pub stall-few : (now : Instant) (stamp : Nanotime) (s : Sess) (b : Binding) → 
 unfolding stall_if_due on_stall
 stall-few now stamp s b = by-if 2 (is_due (stall_deadline s) now) _ _ (go s.outstanding) (record { few = λ e. omega arith })
   where
-    go : (m : MaybeOutstanding) → Few 2 (stall_of m now stamp s b)
-    go outstanding.None = record { few = λ e. omega arith }
-    go (outstanding.Some o) = saying-few 1 _ _ (stall-by-few s.config.retransmit_stall_policy now stamp o s b)
+    go : (m : Option Outstanding) → Few 2 (stall_of m now stamp s b)
+    go None = record { few = λ e. omega arith }
+    go (Some o) = saying-few 1 _ _ (stall-by-few s.config.retransmit_stall_policy now stamp o s b)

@@ -1,5 +1,5 @@
 -- How steps are put together: outputs before a step, a step after a step, another answer, and the room that outputs leave.
-use Rattle.std.specs.Prelude.{if◌then◌else◌}
+use Rattle.std.specs.Prelude.{if◌then◌else◌, None}
 use Prim.Native.Nat.{ℕ, ◌+◌, ◌-◌, ◌<◌, ◌≤◌}
 use mathlib.Core.Path.{◌≡◌, refl, ap, sym, ◌∙◌}
 use mathlib.Core.Bool.{Bool, true, false}
@@ -24,7 +24,6 @@ use lib.Dec.{leb}
 use Rattle.types.specs.Base.{all_ones, deadline_at}
 use Rattle.types.specs.States.{with_keepalive}
 use Rattle.rules.specs.Names.{Instant}
-use Rattle.rules.specs.Names.instant
 use Rattle.rules.specs.Local.{kept_alive}
 
 -- ---- tests: what a method answered, and the branch that was taken
@@ -127,6 +126,6 @@ leb-moved a b d h = go (leb (a + d) b) refl
     go false e = lt-leb d (b - a) (omega (arith, leb-false (a + d) b e, h)) ∙ sym e
 
 -- an instant past the largest is no deadline
-pub deadline-over : (n : ℕ) → all_ones < n → instant.None ≡ deadline_at n
+pub deadline-over : (n : ℕ) → all_ones < n → None ≡ deadline_at n
 unfolding deadline_at
 deadline-over n h = rw (lt-leb n all_ones h)

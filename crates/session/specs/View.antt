@@ -1,9 +1,8 @@
 -- What a session and a step stand for in the rule book, and when a session is in order.
-use Rattle.std.specs.Prelude.{◌≤◌, ◌≡◌, if◌then◌else◌}
+use Rattle.std.specs.Prelude.{◌≤◌, ◌≡◌, if◌then◌else◌, Option, Some, None, Ok, Err}
 use Rattle.types.specs.Flows.{is_sequenced}
-use Rattle.rules.specs.Names.{FlowType, MaybeSeq, PeerMessage, Binding, Bound, Answer}
-use Rattle.rules.specs.Names.seq
-use Rattle.rules.specs.Names.answer
+use Rattle.rules.specs.Names.{FlowType, SeqNum, PeerMessage, Binding, Bound, Answer}
+use Rattle.rules.specs.Names.verdict
 use Rattle.rules.specs.Peer.{is_delivery}
 use Rattle.rules.specs.State.{Sess, sess, Queue, queued, Did}
 use Rattle.rules.specs.Binding.{first_number}
@@ -23,8 +22,8 @@ use Rattle.queue.specs.declared.Outputs.{Outputs}
 -- every field, with lists for rings
 abbrev pub view : Session → Sess
 view s =
-    sess s.id s.local_flow s.remote_flow s.config s.outbound_next s.inbound_next.it s.start_pending (lists_of s.gaps) s.outstanding.it s.replay.it s.awaiting_resume
-    s.provider.it s.peer_finished.it s.finalized
+    sess s.id s.local_flow s.remote_flow s.config s.outbound_next s.inbound_next s.start_pending (lists_of s.gaps) s.outstanding s.replay s.awaiting_resume
+    s.provider s.peer_finished s.finalized
 
 -- ring positions and counts within their room, and few enough gaps allowed that one more has a place
 pub record SessWf (s : Session) : Type 0 where
@@ -45,7 +44,7 @@ pub record After : Type 0 where
   pub answer : Answer
 
 abbrev pub view_step : Step → After
-view_step r = record { session = view r.session; binding = r.binding; queue = queue_of r.queue; bound = r.bound; answer = r.answer.it }
+view_step r = record { session = view r.session; binding = r.binding; queue = queue_of r.queue; bound = r.bound; answer = r.answer }
 
 -- what d does, its outputs added to q
 abbrev pub after : Queue → Did → After
@@ -58,10 +57,10 @@ pub record StepIs (r : Step) (q : Queue) (d : Did) : Type 0 where
   pub is : view_step r ≡ after q d
 
 abbrev pub with_answer : Answer → Step → Step
-with_answer a r = record { session = r.session; binding = r.binding; queue = r.queue; bound = r.bound; answer = record { it = a } }
+with_answer a r = record { session = r.session; binding = r.binding; queue = r.queue; bound = r.bound; answer = a }
 
-abbrev pub first_of : FlowType → MaybeSeq
-first_of f = if is_sequenced f then seq.Some first_number else seq.None
+abbrev pub first_of : FlowType → Option SeqNum
+first_of f = if is_sequenced f then Some first_number else None
 
 abbrev pub view_counted : Counted → CountedRule
 view_counted k = record { session = view k.session; complete = k.complete }
@@ -72,12 +71,12 @@ pub record CountedIs (r : Counted) (m : CountedRule) : Type 0 where
 
 -- what a closing binding answers to a message
 abbrev pub closing_answer : PeerMessage → Answer
-closing_answer m = if is_delivery m then discard else answer.Ok
+closing_answer m = if is_delivery m then discard else (Ok verdict.Done)
 
 -- ---- local calls
 -- a refused call: session, binding and queue exactly as they were
 abbrev pub refused_step : Session → Binding → Outputs → Refusal → Step
-refused_step s b q x = record { session = s; binding = b; queue = q; bound = bound.Stay; answer = record { it = answer.Refused x } }
+refused_step s b q x = record { session = s; binding = b; queue = q; bound = bound.Stay; answer = Err x }
 
 -- r is what a local call gives that is refused so, or passes and does d
 abbrev pub LocalIs : Step → Session → Binding → Outputs → Refused → Did → Type 0
@@ -86,4 +85,4 @@ LocalIs r s b q (refuses x) d = r ≡ refused_step s b q x
 
 -- an application message with this side's next number
 abbrev pub sent_numbered : Instant → Sess → Binding → Did
-sent_numbered now s b = answering (answer.Sent (seq.Some s.outbound_next)) (kept_alive now (allocate_outbound s b))
+sent_numbered now s b = answering (Ok (verdict.Sent (Some s.outbound_next))) (kept_alive now (allocate_outbound s b))

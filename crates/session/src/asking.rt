@@ -9,19 +9,10 @@ use crate::{Session, Step, wide};
 use queue::Outputs;
 use types::binding::Binding;
 use types::ids::{ALL_ONES, Instant, Nanotime, SeqNum, TerminationCode};
-use types::messages::{
-    FinishedReceiving, MessageName, Retransmission, RetransmitReject, RetransmitRequest,
-    SessionMessage,
-};
+use types::messages::{FinishedReceiving, MessageName, Retransmission, RetransmitReject, RetransmitRequest, SessionMessage};
 use types::output::Event;
-use types::parts::{
-    Gap, MaybeGap, MaybeOutstanding, MaybePeerFinished, MaybeReplay, Outstanding, OutstandingSlot,
-    PeerFinished, PeerFinishedSlot, Replay, ReplaySlot,
-};
-use types::reasons::{
-    CLOCK, REJECT_UNASKED, RETRANSMISSION_FLOW, RETRANSMISSION_FOREIGN, RETRANSMISSION_OTHER,
-    RETRANSMISSION_RANGE, RETRANSMISSION_UNASKED, Reason,
-};
+use types::parts::{Gap, Outstanding, PeerFinished, Replay};
+use types::reasons::{CLOCK, REJECT_UNASKED, RETRANSMISSION_FLOW, RETRANSMISSION_FOREIGN, RETRANSMISSION_OTHER, RETRANSMISSION_RANGE, RETRANSMISSION_UNASKED, Reason};
 
 /// The smaller of a length and a limit.
 fn at_most(len: u64, max: u32) -> u32
@@ -55,8 +46,7 @@ impl Session {
             count,
         }));
         leaving.in_sequence = false;
-        let outstanding = OutstandingSlot {
-            it: MaybeOutstanding::Some(Outstanding {
+        session.outstanding = Some(Outstanding {
                 timestamp: stamp,
                 from,
                 count,
@@ -65,9 +55,7 @@ impl Session {
                 interrupted: false,
                 batch_complete: false,
                 stall_reported: false,
-            }),
-        };
-        session.outstanding = outstanding;
+            });
         session.stay(leaving, asked)
     }
 
@@ -75,9 +63,7 @@ impl Session {
     fn is_asking(self) -> bool
         ensures { result ≡ is_outstanding (view self).outstanding }
     {
-        let slot = self.outstanding;
-        let it = slot.it;
-        let MaybeOutstanding::Some(outstanding) = it else {
+        let Some(outstanding) = self.outstanding else {
             return false;
         };
         true
@@ -107,7 +93,7 @@ impl Session {
             return self.stay(binding, queue);
         }
         let gaps = self.gaps;
-        let MaybeGap::Some(gap) = gaps.front() else {
+        let Some(gap) = gaps.front() else {
             return self.stay(binding, queue);
         };
         if gap.end.0 <= gap.from.0 {
@@ -128,9 +114,7 @@ impl Session {
     {
         let mut session = self;
         let mut leaving = binding;
-        let slot = session.peer_finished;
-        let it = slot.it;
-        let MaybePeerFinished::Some(finished) = it else {
+        let Some(finished) = session.peer_finished else {
             return session.stay(binding, queue);
         };
         if finished.receiving_sent {
@@ -149,13 +133,10 @@ impl Session {
         let session_id = session.id;
         let sent = queue.send(SessionMessage::FinishedReceiving(FinishedReceiving { session_id }));
         let end = finished.end;
-        let told = PeerFinishedSlot {
-            it: MaybePeerFinished::Some(PeerFinished {
+        session.peer_finished = Some(PeerFinished {
                 receiving_sent: true,
                 end,
-            }),
-        };
-        session.peer_finished = told;
+            });
         leaving.in_sequence = false;
         session.stay(leaving, sent)
     }
@@ -181,15 +162,10 @@ impl Session {
         ensures { SessIs result (completed_at (view self).outstanding (view self)) }
     {
         let mut session = self;
-        let slot = session.outstanding;
-        let it = slot.it;
-        let MaybeOutstanding::Some(outstanding) = it else {
+        let Some(outstanding) = session.outstanding else {
             return session;
         };
-        let none = OutstandingSlot {
-            it: MaybeOutstanding::None,
-        };
-        session.outstanding = none;
+        session.outstanding = None;
         session.consume_missing(wide(outstanding.count))
     }
 
@@ -207,10 +183,7 @@ impl Session {
         ensures { StepIs result (queue_of queue) (complete_outstanding now stamp (view self) binding) }
     {
         let mut session = self.consume_outstanding();
-        let replay = ReplaySlot {
-            it: MaybeReplay::None,
-        };
-        session.replay = replay;
+        session.replay = None;
         session.recovered(binding, queue, now, stamp)
     }
 
@@ -229,23 +202,17 @@ impl Session {
     {
         let mut session = self;
         let next = message.next_seq_no;
-        let replay = ReplaySlot {
-            it: MaybeReplay::Some(Replay {
+        session.replay = Some(Replay {
                 next,
                 remaining: message.count,
-            }),
-        };
-        session.replay = replay;
+            });
         session.awaiting_resume = true;
         let mut begun = outstanding;
         begun.last_progress = now;
         begun.interrupted = false;
         begun.batch_complete = false;
         begun.stall_reported = false;
-        let slot = OutstandingSlot {
-            it: MaybeOutstanding::Some(begun),
-        };
-        session.outstanding = slot;
+        session.outstanding = Some(begun);
         session.stay(binding, queue)
     }
 
@@ -270,9 +237,7 @@ impl Session {
         if !theirs.same(self.id) {
             return self.violation(binding, queue, RETRANSMISSION_FOREIGN);
         }
-        let slot = self.outstanding;
-        let it = slot.it;
-        let MaybeOutstanding::Some(outstanding) = it else {
+        let Some(outstanding) = self.outstanding else {
             return self.violation(binding, queue, RETRANSMISSION_UNASKED);
         };
         if message.request_timestamp.0 != outstanding.timestamp.0 {
@@ -311,14 +276,8 @@ impl Session {
             },
             text,
         );
-        let none = OutstandingSlot {
-            it: MaybeOutstanding::None,
-        };
-        session.outstanding = none;
-        let replay = ReplaySlot {
-            it: MaybeReplay::None,
-        };
-        session.replay = replay;
+        session.outstanding = None;
+        session.replay = None;
         let left = session.consume_missing(wide(outstanding.count));
         left.recovered(binding, told, now, stamp)
     }
@@ -338,9 +297,7 @@ impl Session {
         requires queue_len_bound { length (queue_of queue).outs + 4 ≤ 32 }
         ensures { StepIs result (queue_of queue) (on_retransmit_reject now stamp message text (view self) binding) }
     {
-        let slot = self.outstanding;
-        let it = slot.it;
-        let MaybeOutstanding::Some(outstanding) = it else {
+        let Some(outstanding) = self.outstanding else {
             return self.ignore_reject(binding, queue);
         };
         if outstanding.timestamp.0 != message.request_timestamp.0 {
@@ -379,14 +336,8 @@ impl Session {
         ensures { StepIs result (queue_of queue) (re_request now stamp outstanding (view self) binding) }
     {
         let mut session = self;
-        let none = OutstandingSlot {
-            it: MaybeOutstanding::None,
-        };
-        session.outstanding = none;
-        let replay = ReplaySlot {
-            it: MaybeReplay::None,
-        };
-        session.replay = replay;
+        session.outstanding = None;
+        session.replay = None;
         let left = session.consume_missing(wide(outstanding.delivered));
         left.request_missing(binding, queue, now, stamp)
     }

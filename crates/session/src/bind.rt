@@ -6,17 +6,15 @@ ghost use Rattle.session.specs.View.{view, SessWf, StepIs};
 
 use crate::{Session, Step};
 use queue::Outputs;
-use types::binding::{BindState, Binding, StateSlot};
-use types::ids::{Instant, MaybeSeq, Nanotime};
+use types::binding::{BindState, Binding};
+use types::ids::{Instant, SeqNum, Nanotime};
 
 /// A binding that begins now.
 fn new_binding(now: Instant, local_keepalive: u64, remote_keepalive: u64) -> Binding
     ensures { result ≡ established now local_keepalive remote_keepalive }
 {
     Binding {
-        state: StateSlot {
-            it: BindState::Established,
-        },
+        state: BindState::Established,
         local_keepalive,
         remote_keepalive,
         last_keepalive: now,
@@ -34,7 +32,7 @@ impl Session {
         stamp: Nanotime,
         local_keepalive: u64,
         remote_keepalive: u64,
-        next: MaybeSeq,
+        next: Option<SeqNum>,
     ) -> Step
         requires sess_wf { SessWf self }
         requires outs_wf { OutsWf queue }
@@ -51,7 +49,7 @@ impl Session {
         self,
         binding: Binding,
         queue: Outputs,
-        next: MaybeSeq,
+        next: Option<SeqNum>,
         now: Instant,
         stamp: Nanotime,
     ) -> Step
@@ -64,7 +62,7 @@ impl Session {
         if !remote_flow.is_sequenced() {
             return self.resume(binding, queue, now, stamp);
         }
-        let MaybeSeq::Some(number) = next else {
+        let Some(number) = next else {
             return self.resume(binding, queue, now, stamp);
         };
         let step = self.on_next_seq(binding, queue, number, now, stamp);

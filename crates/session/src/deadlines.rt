@@ -7,25 +7,25 @@ ghost use Rattle.session.specs.View.{view, SessWf, StepIs};
 use crate::{Session, Step};
 use queue::Outputs;
 use types::binding::{BindState, Binding};
-use types::config::{MaybeDuration, RetransmitStallPolicy};
-use types::ids::{ALL_ONES, Instant, MaybeInstant, Nanotime, TerminationCode};
+use types::config::{RetransmitStallPolicy};
+use types::ids::{ALL_ONES, Instant, Nanotime, TerminationCode};
 use types::messages::{Sequence, SessionMessage};
 use types::output::{Event, TerminatedBy};
-use types::parts::{MaybeOutstanding, Outstanding, OutstandingSlot};
+use types::parts::{Outstanding};
 use types::reasons::{KEEPALIVE, Reason, STALLED};
 
 /// The grace beside the peer's keepalive: that of the configuration, else the keepalive again.
-fn grace_or(grace: MaybeDuration, keepalive: u64) -> u64
+fn grace_or(grace: Option<u64>, keepalive: u64) -> u64
     ensures { result ≡ grace_or grace keepalive }
 {
-    let MaybeDuration::Some(own) = grace else {
+    let Some(own) = grace else {
         return keepalive;
     };
     own
 }
 
 /// When this side's next heartbeat is due (FIXP 4.5).
-fn heartbeat_deadline(binding: Binding) -> MaybeInstant
+fn heartbeat_deadline(binding: Binding) -> Option<Instant>
     ensures { result ≡ heartbeat_deadline binding }
 {
     let last = binding.last_keepalive;
@@ -33,26 +33,26 @@ fn heartbeat_deadline(binding: Binding) -> MaybeInstant
 }
 
 /// The earlier of two deadlines.
-fn earlier(a: MaybeInstant, b: MaybeInstant) -> MaybeInstant
+fn earlier(a: Option<Instant>, b: Option<Instant>) -> Option<Instant>
     ensures { result ≡ Rattle.rules.specs.Deadlines.earlier a b }
 {
-    let MaybeInstant::Some(first) = a else {
+    let Some(first) = a else {
         return b;
     };
-    let MaybeInstant::Some(second) = b else {
-        return MaybeInstant::Some(first);
+    let Some(second) = b else {
+        return Some(first);
     };
     if first.0 <= second.0 {
-        return MaybeInstant::Some(first);
+        return Some(first);
     }
-    MaybeInstant::Some(second)
+    Some(second)
 }
 
 /// "at the deadline counts as due"
-fn is_due(deadline: MaybeInstant, now: Instant) -> bool
+fn is_due(deadline: Option<Instant>, now: Instant) -> bool
     ensures { result ≡ Rattle.rules.specs.Deadlines.is_due deadline now }
 {
-    let MaybeInstant::Some(at) = deadline else {
+    let Some(at) = deadline else {
         return false;
     };
     at.0 <= now.0
@@ -60,30 +60,28 @@ fn is_due(deadline: MaybeInstant, now: Instant) -> bool
 
 impl Session {
     /// When the peer has been silent for too long (FIXP 4.5); a sum that does not fit means no deadline.
-    fn silence_deadline(self, binding: Binding) -> MaybeInstant
+    fn silence_deadline(self, binding: Binding) -> Option<Instant>
         ensures { result ≡ silence_deadline (view self) binding }
     {
         let config = self.config;
         let own = config.peer_silence_grace;
         let grace = grace_or(own, binding.remote_keepalive);
         if ALL_ONES - grace < binding.remote_keepalive {
-            return MaybeInstant::None;
+            return None;
         }
         let last = binding.last_received;
         last.checked_add(binding.remote_keepalive + grace)
     }
 
     /// When the request in flight stalls; a stall already reported runs no timer.
-    fn stall_deadline(self) -> MaybeInstant
+    fn stall_deadline(self) -> Option<Instant>
         ensures { result ≡ stall_deadline (view self) }
     {
-        let slot = self.outstanding;
-        let it = slot.it;
-        let MaybeOutstanding::Some(outstanding) = it else {
-            return MaybeInstant::None;
+        let Some(outstanding) = self.outstanding else {
+            return None;
         };
         if outstanding.stall_reported {
-            return MaybeInstant::None;
+            return None;
         }
         let config = self.config;
         let last = outstanding.last_progress;
@@ -91,11 +89,10 @@ impl Session {
     }
 
     /// The next instant at which a timeout has work to do.
-    pub fn next_deadline(self, binding: Binding) -> MaybeInstant
+    pub fn next_deadline(self, binding: Binding) -> Option<Instant>
         ensures { result ≡ next_deadline (view self) binding }
     {
-        let slot = binding.state;
-        let state = slot.it;
+        let state = binding.state;
         match state {
             BindState::Established => {
                 let silence = self.silence_deadline(binding);
@@ -124,8 +121,7 @@ impl Session {
         requires queue_len_bound { length (queue_of queue).outs + 4 ≤ 32 }
         ensures { StepIs result (queue_of queue) (on_timeout now stamp reason (view self) binding) }
     {
-        let slot = binding.state;
-        let state = slot.it;
+        let state = binding.state;
         match state {
             BindState::Established => self.established_timeout(binding, queue, now, stamp),
             BindState::Terminating { sent_at, code } => {
@@ -194,9 +190,7 @@ impl Session {
         if !is_due(stall, now) {
             return self.stay(binding, queue);
         }
-        let slot = self.outstanding;
-        let it = slot.it;
-        let MaybeOutstanding::Some(outstanding) = it else {
+        let Some(outstanding) = self.outstanding else {
             return self.stay(binding, queue);
         };
         self.on_stall(binding, queue, now, stamp, outstanding)
@@ -275,10 +269,7 @@ impl Session {
         let mut session = self;
         let mut reported = outstanding;
         reported.stall_reported = true;
-        let slot = OutstandingSlot {
-            it: MaybeOutstanding::Some(reported),
-        };
-        session.outstanding = slot;
+        session.outstanding = Some(reported);
         session.stay(binding, queue)
     }
 

@@ -6,14 +6,11 @@ ghost use Rattle.session.specs.View.{view, SessWf, SessIs, StepIs};
 
 use crate::{Session, Step, wide};
 use queue::Outputs;
-use types::binding::{BindState, Binding, StateSlot};
+use types::binding::{BindState, Binding};
 use types::ids::{Instant, TerminationCode};
 use types::messages::{SessionMessage, Terminate};
 use types::output::{Event, TerminatedBy};
-use types::parts::{
-    MaybeOutstanding, MaybePeerFinished, MaybeProvider, MaybeReplay, OutstandingSlot, ProviderSlot,
-    ReplaySlot,
-};
+use types::parts::{Outstanding, PeerFinished, Provider, Replay};
 use types::reasons::{Reason, TERMINATE_FOREIGN};
 
 impl Session {
@@ -33,15 +30,10 @@ impl Session {
         requires { SessWf self }
         ensures { SessIs result (released_at (view self).outstanding (view self)) }
     {
-        let slot = self.outstanding;
-        let it = slot.it;
-        let MaybeOutstanding::Some(outstanding) = it else {
+        let Some(outstanding) = self.outstanding else {
             return self;
         };
-        let none = OutstandingSlot {
-            it: MaybeOutstanding::None,
-        };
-        self.outstanding = none;
+        self.outstanding = None;
         self.consume_missing(wide(outstanding.delivered))
     }
 
@@ -51,15 +43,9 @@ impl Session {
         ensures { SessIs result (release_binding_state (view self)) }
     {
         let mut released = self.release_outstanding();
-        let replay = ReplaySlot {
-            it: MaybeReplay::None,
-        };
-        released.replay = replay;
+        released.replay = None;
         released.awaiting_resume = false;
-        let provider = ProviderSlot {
-            it: MaybeProvider::None,
-        };
-        released.provider = provider;
+        released.provider = None;
         released
     }
 
@@ -67,9 +53,7 @@ impl Session {
     pub fn finished_receiving_sent(self) -> bool
         ensures { result ≡ finished_receiving_sent (view self) }
     {
-        let slot = self.peer_finished;
-        let it = slot.it;
-        let MaybePeerFinished::Some(finished) = it else {
+        let Some(finished) = self.peer_finished else {
             return false;
         };
         finished.receiving_sent
@@ -194,9 +178,7 @@ impl Session {
         );
         let session = self.ended_by(code.is_finished());
         let deadline = now.checked_add(binding.local_keepalive);
-        let closing = StateSlot {
-            it: BindState::Closing { deadline },
-        };
+        let closing = BindState::Closing { deadline };
         binding.state = closing;
         session.stay(binding, told)
     }
@@ -221,8 +203,7 @@ impl Session {
             return self.violation(binding, queue, TERMINATE_FOREIGN);
         }
         let code = message.code;
-        let slot = binding.state;
-        let state = slot.it;
+        let state = binding.state;
         match state {
             BindState::Established => self.answer_terminate(binding, queue, now, message, text),
             BindState::Terminating {

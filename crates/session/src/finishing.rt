@@ -8,28 +8,25 @@ ghost use Rattle.session.specs.View.{view, SessWf, StepIs};
 use crate::{Session, Step};
 use queue::Outputs;
 use types::binding::Binding;
-use types::ids::{ALL_ONES, Instant, MaybeSeq, Nanotime, SeqNum};
+use types::ids::{ALL_ONES, Instant, Nanotime, SeqNum};
 use types::messages::FinishedSending;
 use types::output::Event;
-use types::parts::{MaybePeerFinished, PeerFinished, PeerFinishedSlot};
+use types::parts::{PeerFinished};
 use types::reasons::{FINISHED_FOREIGN, FINISHED_NO_LAST, LAST_BELOW, LAST_OUT_OF_RANGE};
 
 impl Session {
     /// The peer has finished, its numbers ending before `end`; answered at once if nothing is missing (FIXP 4.7.2).
-    fn finished_with(self, binding: Binding, queue: Outputs, end: MaybeSeq) -> Step
+    fn finished_with(self, binding: Binding, queue: Outputs, end: Option<SeqNum>) -> Step
         requires sess_wf { SessWf self }
         requires outs_wf { OutsWf queue }
         requires queue_len_bound { length (queue_of queue).outs + 1 ≤ 32 }
         ensures { StepIs result (queue_of queue) (finished_with end (view self) binding) }
     {
         let mut session = self;
-        let finished = PeerFinishedSlot {
-            it: MaybePeerFinished::Some(PeerFinished {
+        session.peer_finished = Some(PeerFinished {
                 receiving_sent: false,
                 end,
-            }),
-        };
-        session.peer_finished = finished;
+            });
         session.maybe_finish_receiving(binding, queue)
     }
 
@@ -37,9 +34,7 @@ impl Session {
     fn is_below(self, next: u64) -> bool
         ensures { result ≡ below (view self).inbound_next next }
     {
-        let slot = self.inbound_next;
-        let it = slot.it;
-        let MaybeSeq::Some(expected) = it else {
+        let Some(expected) = self.inbound_next else {
             return false;
         };
         next < expected.0
@@ -50,7 +45,7 @@ impl Session {
         self,
         binding: Binding,
         queue: Outputs,
-        last: MaybeSeq,
+        last: Option<SeqNum>,
         now: Instant,
         stamp: Nanotime,
     ) -> Step
@@ -59,7 +54,7 @@ impl Session {
         requires queue_len_bound { length (queue_of queue).outs + 5 ≤ 32 }
         ensures { StepIs result (queue_of queue) (last_at last now stamp (view self) binding) }
     {
-        let MaybeSeq::Some(number) = last else {
+        let Some(number) = last else {
             return self.violation(binding, queue, FINISHED_NO_LAST);
         };
         if number.0 == ALL_ONES {
@@ -77,7 +72,7 @@ impl Session {
         let session = step.session;
         let kept = step.binding;
         let rest = step.queue;
-        session.finished_with(kept, rest, MaybeSeq::Some(next))
+        session.finished_with(kept, rest, Some(next))
     }
 
     /// By the peer's flow: only a sequenced one has a last number.
@@ -85,7 +80,7 @@ impl Session {
         self,
         binding: Binding,
         queue: Outputs,
-        last: MaybeSeq,
+        last: Option<SeqNum>,
         now: Instant,
         stamp: Nanotime,
     ) -> Step
@@ -98,7 +93,7 @@ impl Session {
         if remote_flow.is_sequenced() {
             return self.finish_at(binding, queue, last, now, stamp);
         }
-        self.finished_with(binding, queue, MaybeSeq::None)
+        self.finished_with(binding, queue, None)
     }
 
     /// A FinishedSending; repeated ones are the peer's heartbeat (FIXP 4.7.1).

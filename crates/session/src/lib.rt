@@ -13,11 +13,8 @@ use rings::gaps::Gaps;
 use types::answers::Answer;
 use types::binding::{Binding, Bound};
 use types::config::FixpConfig;
-use types::ids::{FlowType, MaybeSeq, SeqNum, SessionId};
-use types::parts::{
-    MaybeOutstanding, MaybePeerFinished, MaybeProvider, MaybeReplay, OutstandingSlot,
-    PeerFinishedSlot, ProviderSlot, ReplaySlot, SeqSlot,
-};
+use types::ids::{FlowType, SeqNum, SessionId};
+use types::parts::{Outstanding, PeerFinished, Provider, Replay};
 
 pub mod asking;
 pub mod bind;
@@ -75,8 +72,7 @@ impl Step {
     fn answered(mut self, answer: Answer) -> Step
         ensures { result ≡ with_answer answer self }
     {
-        let slot = AnswerSlot { it: answer };
-        self.answer = slot;
+        self.answer = answer;
         self
     }
 }
@@ -101,22 +97,14 @@ impl Session {
             remote_flow,
             config,
             outbound_next: SeqNum(1),
-            inbound_next: SeqSlot { it: first },
+            inbound_next: first,
             start_pending: pending,
             gaps,
-            outstanding: OutstandingSlot {
-                it: MaybeOutstanding::None,
-            },
-            replay: ReplaySlot {
-                it: MaybeReplay::None,
-            },
+            outstanding: None,
+            replay: None,
             awaiting_resume: false,
-            provider: ProviderSlot {
-                it: MaybeProvider::None,
-            },
-            peer_finished: PeerFinishedSlot {
-                it: MaybePeerFinished::None,
-            },
+            provider: None,
+            peer_finished: None,
             finalized: false,
         }
     }
@@ -132,7 +120,7 @@ impl Session {
             binding,
             queue,
             bound: Bound::Stay,
-            answer: AnswerSlot { it: answer },
+            answer: answer,
         }
     }
 
@@ -142,7 +130,7 @@ impl Session {
         requires outs_wf { OutsWf queue }
         ensures { StepIs result (queue_of queue) (stays (view self) binding []) }
     {
-        self.reply(binding, queue, Answer::Ok)
+        self.reply(binding, queue, Ok(Verdict::Done))
     }
 
     /// The binding is over.
@@ -156,19 +144,19 @@ impl Session {
             binding,
             queue,
             bound: Bound::Unbind,
-            answer: AnswerSlot { it: Answer::Ok },
+            answer: Ok(Verdict::Done),
         }
     }
 }
 
 /// The number that a new session expects of a peer.
-fn first_of(remote_flow: FlowType) -> MaybeSeq
+fn first_of(remote_flow: FlowType) -> Option<SeqNum>
     ensures { result ≡ first_of remote_flow }
 {
     if remote_flow.is_sequenced() {
-        return MaybeSeq::Some(SeqNum(1));
+        return Some(SeqNum(1));
     }
-    MaybeSeq::None
+    None
 }
 
 /// A count as a length.

@@ -12,11 +12,11 @@ ghost use Rattle.session.specs.View.{view, SessWf, StepIs, refused_step, LocalIs
 use crate::{AnswerSlot, Session, Step, wide};
 use queue::Outputs;
 use types::answers::{Answer, Operation, Refusal, RetransmitBatch};
-use types::binding::{BindState, Binding, Bound, StateSlot};
-use types::ids::{ALL_ONES, Instant, MaybeSeq, RetransmitRejectCode, SeqNum, TerminationCode};
+use types::binding::{BindState, Binding, Bound};
+use types::ids::{ALL_ONES, Instant, RetransmitRejectCode, SeqNum, TerminationCode};
 use types::messages::{Retransmission, RetransmitReject, SessionMessage, Terminate};
 use types::output::{Event, TerminatedBy};
-use types::parts::{MaybeProvider, Provider, ProviderSlot};
+use types::parts::{Provider};
 use types::reasons::{MAX_REASON_LEN, Reason};
 
 impl Session {
@@ -29,9 +29,7 @@ impl Session {
             binding,
             queue,
             bound: Bound::Stay,
-            answer: AnswerSlot {
-                it: Answer::Refused(refusal),
-            },
+            answer: Err(refusal),
         }
     }
 
@@ -77,7 +75,7 @@ impl Session {
         }
         if !local_flow.is_sequenced() {
             kept.last_keepalive = now;
-            return self.reply(kept, queue, Answer::Sent(MaybeSeq::None));
+            return self.reply(kept, queue, Ok(Verdict::Sent(None)));
         }
         if self.outbound_next.0 >= ALL_ONES - 1 {
             return self.refuse(binding, queue, Refusal::SequenceExhausted);
@@ -99,7 +97,7 @@ impl Session {
         let mut kept = step.binding;
         let rest = step.queue;
         kept.last_keepalive = now;
-        session.reply(kept, rest, Answer::Sent(MaybeSeq::Some(seq)))
+        session.reply(kept, rest, Ok(Verdict::Sent(Some(seq))))
     }
 
     /// Starts unbinding the transport (FIXP 4.4): a graceful Terminate waits for the answer, any other does not.
@@ -130,13 +128,8 @@ impl Session {
             text,
         );
         if code.is_finished() {
-            let none = ProviderSlot {
-                it: MaybeProvider::None,
-            };
-            session.provider = none;
-            let terminating = StateSlot {
-                it: BindState::Terminating { sent_at: now, code },
-            };
+            session.provider = None;
+            let terminating = BindState::Terminating { sent_at: now, code };
             waiting.state = terminating;
             return session.stay(waiting, sent);
         }
@@ -162,9 +155,7 @@ impl Session {
         if !binding.is_established() {
             return self.refuse_state(binding, queue, Operation::Retransmit);
         }
-        let slot = self.provider;
-        let it = slot.it;
-        let MaybeProvider::Some(provider) = it else {
+        let Some(provider) = self.provider else {
             return self.refuse(binding, queue, Refusal::NoRetransmissionInProgress);
         };
         if provider.count < provider.sent {
@@ -212,14 +203,13 @@ impl Session {
             count,
         }));
         let it = provider_after(provider, count);
-        let left = ProviderSlot { it };
-        session.provider = left;
+        session.provider = it;
         leaving.in_sequence = false;
         leaving.last_keepalive = now;
         session.reply(
             leaving,
             sent,
-            Answer::Batch(RetransmitBatch { from, count }),
+            Ok(Verdict::Batch(RetransmitBatch { from, count })),
         )
     }
 
@@ -244,9 +234,7 @@ impl Session {
         if !text.fits() {
             return session.refuse_reason(binding, queue, text);
         }
-        let slot = session.provider;
-        let it = slot.it;
-        let MaybeProvider::Some(provider) = it else {
+        let Some(provider) = session.provider else {
             return session.refuse(binding, queue, Refusal::NoRetransmissionInProgress);
         };
         let session_id = session.id;
@@ -259,10 +247,7 @@ impl Session {
             }),
             text,
         );
-        let none = ProviderSlot {
-            it: MaybeProvider::None,
-        };
-        session.provider = none;
+        session.provider = None;
         leaving.in_sequence = false;
         session.stay(leaving, sent)
     }
@@ -277,29 +262,24 @@ impl Session {
         if !binding.is_established() {
             return session.refuse_state(binding, queue, Operation::EndRetransmission);
         }
-        let slot = session.provider;
-        let it = slot.it;
-        let MaybeProvider::Some(provider) = it else {
+        let Some(provider) = session.provider else {
             return session.refuse(binding, queue, Refusal::NoRetransmissionInProgress);
         };
-        let none = ProviderSlot {
-            it: MaybeProvider::None,
-        };
-        session.provider = none;
+        session.provider = None;
         session.stay(binding, queue)
     }
 }
 
 /// What is left to serve after a batch.
-fn provider_after(provider: Provider, count: u32) -> MaybeProvider
+fn provider_after(provider: Provider, count: u32) -> Option<Provider>
     requires { provider.sent + count ≤ provider.count }
     ensures { result ≡ provider_after count provider }
 {
     let mut left = provider;
     let sent = provider.sent + count;
     if provider.count <= sent {
-        return MaybeProvider::None;
+        return None;
     }
     left.sent = sent;
-    MaybeProvider::Some(left)
+    Some(left)
 }

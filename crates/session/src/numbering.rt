@@ -2,7 +2,6 @@
 ghost use Rattle.std.specs.Prelude.{◌≡◌, [], ◌+◌, ◌-◌, ◌<◌, ◌≤◌, length};
 ghost use Rattle.queue.specs.View.{queue_of, OutsWf};
 ghost use Rattle.types.specs.Base.{all_ones};
-ghost use Rattle.rules.specs.Names.seq;
 ghost use Rattle.rules.specs.Names.flow;
 ghost use Rattle.rules.specs.State.{stays, with_inbound, with_replay, with_outstanding, answering};
 ghost use Rattle.rings.specs.View.{GapsWf, view_kept};
@@ -16,18 +15,11 @@ use queue::Outputs;
 use rings::gaps::Kept;
 use types::answers::{Answer, Delivery};
 use types::binding::Binding;
-use types::ids::{ALL_ONES, FlowType, Instant, MaybeSeq, Nanotime, SeqNum, TerminationCode};
+use types::ids::{ALL_ONES, FlowType, Instant, Nanotime, SeqNum, TerminationCode};
 use types::messages::{MessageName, NotApplied, Sequence, SessionMessage};
 use types::output::Event;
-use types::parts::{
-    MaybeOutstanding, MaybePeerFinished, MaybeReplay, OutstandingSlot, Replay, ReplaySlot, SeqSlot,
-};
-use types::reasons::{
-    AFTER_TERMINATE, APPLICATION_AFTER_FINISHED, APPLICATION_BEFORE_RESUME,
-    APPLICATION_BEFORE_SEQUENCE, APPLICATION_ON_NONE, GAP_NOT_APPLIED, GAP_TOO_LONG,
-    INBOUND_EXHAUSTED, NEXT_LOWER, NEXT_PAST_LAST, NEXT_ZERO, OUTBOUND_EXHAUSTED, REPLAY_OVERFLOW,
-    SEQUENCE_UNSEQUENCED, TOO_MANY_GAPS,
-};
+use types::parts::{Outstanding, PeerFinished, Replay};
+use types::reasons::{AFTER_TERMINATE, APPLICATION_AFTER_FINISHED, APPLICATION_BEFORE_RESUME, APPLICATION_BEFORE_SEQUENCE, APPLICATION_ON_NONE, GAP_NOT_APPLIED, GAP_TOO_LONG, INBOUND_EXHAUSTED, NEXT_LOWER, NEXT_PAST_LAST, NEXT_ZERO, OUTBOUND_EXHAUSTED, REPLAY_OVERFLOW, SEQUENCE_UNSEQUENCED, TOO_MANY_GAPS};
 
 /// The session after one more delivered message, and whether its request is now answered in full.
 #[derive(Clone, Copy)]
@@ -45,7 +37,7 @@ impl Session {
         ensures { StepIs result (queue_of queue) (answering discard (violation reason (view self) binding)) }
     {
         let step = self.violation(binding, queue, reason);
-        step.answered(Answer::Delivered(Delivery::Discard))
+        step.answered(Ok(Verdict::Delivered(Delivery::Discard)))
     }
 
     /// Numbers an application message just received (FIXP 3.5.1 and 4.6.2).
@@ -64,12 +56,10 @@ impl Session {
         let mut heard = binding;
         if heard.is_closing() {
             let told = queue.ignore(MessageName::ApplicationMessage, AFTER_TERMINATE);
-            return self.reply(binding, told, Answer::Delivered(Delivery::Discard));
+            return self.reply(binding, told, Ok(Verdict::Delivered(Delivery::Discard)));
         }
         heard.last_received = now;
-        let slot = self.replay;
-        let it = slot.it;
-        let MaybeReplay::Some(replay) = it else {
+        let Some(replay) = self.replay else {
             return self.on_live(heard, queue);
         };
         self.on_replayed(heard, queue, replay, now, stamp)
@@ -83,20 +73,14 @@ impl Session {
     {
         let mut session = self;
         if replay.remaining <= 1 {
-            let over = ReplaySlot {
-                it: MaybeReplay::None,
-            };
-            session.replay = over;
+            session.replay = None;
             return session;
         }
         let next = SeqNum(replay.next.0 + 1);
-        let slot = ReplaySlot {
-            it: MaybeReplay::Some(Replay {
+        session.replay = Some(Replay {
                 next,
                 remaining: replay.remaining - 1,
-            }),
-        };
-        session.replay = slot;
+            });
         session
     }
 
@@ -106,9 +90,7 @@ impl Session {
         ensures { CountedIs result (count_delivered now last (view self)) }
     {
         let mut session = self;
-        let slot = session.outstanding;
-        let it = slot.it;
-        let MaybeOutstanding::Some(outstanding) = it else {
+        let Some(outstanding) = session.outstanding else {
             return Counted {
                 session,
                 complete: false,
@@ -126,10 +108,7 @@ impl Session {
         progressed.last_progress = now;
         progressed.batch_complete = last;
         progressed.stall_reported = false;
-        let counted = OutstandingSlot {
-            it: MaybeOutstanding::Some(progressed),
-        };
-        session.outstanding = counted;
+        session.outstanding = Some(progressed);
         Counted {
             session,
             complete: outstanding.count <= delivered,
@@ -178,12 +157,12 @@ impl Session {
         session.gaps = left;
         let step = session.complete_if(complete, binding, queue, now, stamp);
         if seen.duplicate {
-            return step.answered(Answer::Delivered(Delivery::Discard));
+            return step.answered(Ok(Verdict::Delivered(Delivery::Discard)));
         }
-        step.answered(Answer::Delivered(Delivery::Accept {
-            seq: MaybeSeq::Some(seq),
+        step.answered(Ok(Verdict::Delivered(Delivery::Accept {
+            seq: Some(seq),
             retransmitted: true,
-        }))
+        })))
     }
 
     /// A message of the batch being received.
@@ -214,9 +193,7 @@ impl Session {
     pub fn is_peer_finished(self) -> bool
         ensures { result ≡ is_peer_finished (view self).peer_finished }
     {
-        let slot = self.peer_finished;
-        let it = slot.it;
-        let MaybePeerFinished::Some(finished) = it else {
+        let Some(finished) = self.peer_finished else {
             return false;
         };
         true
@@ -238,10 +215,10 @@ impl Session {
             FlowType::Unsequenced => self.reply(
                 binding,
                 queue,
-                Answer::Delivered(Delivery::Accept {
-                    seq: MaybeSeq::None,
+                Ok(Verdict::Delivered(Delivery::Accept {
+                    seq: None,
                     retransmitted: false,
-                }),
+                })),
             ),
             FlowType::Recoverable => self.number_live(binding, queue),
             FlowType::Idempotent => self.number_live(binding, queue),
@@ -260,25 +237,21 @@ impl Session {
             return session.discard_violation(binding, queue, APPLICATION_BEFORE_RESUME);
         }
         session.start_pending = false;
-        let slot = session.inbound_next;
-        let it = slot.it;
-        let MaybeSeq::Some(seq) = it else {
+        let Some(seq) = session.inbound_next else {
             return session.discard_violation(binding, queue, APPLICATION_BEFORE_SEQUENCE);
         };
         if seq.0 == ALL_ONES {
             return session.discard_violation(binding, queue, INBOUND_EXHAUSTED);
         }
-        let following = SeqSlot {
-            it: MaybeSeq::Some(SeqNum(seq.0 + 1)),
-        };
+        let following = Some(SeqNum(seq.0 + 1));
         session.inbound_next = following;
         session.reply(
             binding,
             queue,
-            Answer::Delivered(Delivery::Accept {
-                seq: MaybeSeq::Some(seq),
+            Ok(Verdict::Delivered(Delivery::Accept {
+                seq: Some(seq),
                 retransmitted: false,
-            }),
+            })),
         )
     }
 
@@ -314,13 +287,10 @@ impl Session {
     fn is_past_finished(self, next: SeqNum) -> bool
         ensures { result ≡ past_finished (view self).peer_finished next.0 }
     {
-        let slot = self.peer_finished;
-        let it = slot.it;
-        let MaybePeerFinished::Some(finished) = it else {
+        let Some(finished) = self.peer_finished else {
             return false;
         };
-        let last = finished.end;
-        let MaybeSeq::Some(end) = last else {
+        let Some(end) = finished.end else {
             return false;
         };
         end.0 < next.0
@@ -333,15 +303,10 @@ impl Session {
     {
         let mut session = self;
         session.awaiting_resume = false;
-        let slot = session.replay;
-        let it = slot.it;
-        let MaybeReplay::Some(replay) = it else {
+        let Some(replay) = session.replay else {
             return session;
         };
-        let over = ReplaySlot {
-            it: MaybeReplay::None,
-        };
-        session.replay = over;
+        session.replay = None;
         session.cut_off(now)
     }
 
@@ -351,19 +316,14 @@ impl Session {
         ensures { SessIs result (with_outstanding (cut_off (view self).outstanding now) (view self)) }
     {
         let mut session = self;
-        let slot = session.outstanding;
-        let it = slot.it;
-        let MaybeOutstanding::Some(outstanding) = it else {
+        let Some(outstanding) = session.outstanding else {
             return session;
         };
         let mut cut = outstanding;
         cut.interrupted = true;
         cut.stall_reported = false;
         cut.last_progress = now;
-        let kept = OutstandingSlot {
-            it: MaybeOutstanding::Some(cut),
-        };
-        session.outstanding = kept;
+        session.outstanding = Some(cut);
         session
     }
 
@@ -387,9 +347,7 @@ impl Session {
             let first = session.with_inbound(next);
             return first.stay(binding, queue);
         }
-        let slot = session.inbound_next;
-        let it = slot.it;
-        let MaybeSeq::Some(expected) = it else {
+        let Some(expected) = session.inbound_next else {
             let first = session.with_inbound(next);
             return first.stay(binding, queue);
         };
@@ -409,13 +367,10 @@ impl Session {
     /// The number that the peer's next live message has.
     fn with_inbound(self, next: SeqNum) -> Session
         requires { SessWf self }
-        ensures { SessIs result (with_inbound (seq.Some next) (view self)) }
+        ensures { SessIs result (with_inbound (Some next) (view self)) }
     {
         let mut session = self;
-        let slot = SeqSlot {
-            it: MaybeSeq::Some(next),
-        };
-        session.inbound_next = slot;
+        session.inbound_next = Some(next);
         session
     }
 
@@ -452,7 +407,7 @@ impl Session {
     fn skip_gap(self, binding: Binding, queue: Outputs, next: SeqNum) -> Step
         requires sess_wf { SessWf self }
         requires outs_wf { OutsWf queue }
-        ensures { StepIs result (queue_of queue) (stays (with_inbound (seq.Some next) (view self)) binding []) }
+        ensures { StepIs result (queue_of queue) (stays (with_inbound (Some next) (view self)) binding []) }
     {
         let moved = self.with_inbound(next);
         moved.stay(binding, queue)
@@ -583,7 +538,7 @@ impl Session {
         let session = step.session;
         let mut kept = step.binding;
         let sending = step.queue;
-        let sent = sending.send_application(MaybeSeq::Some(seq), message);
+        let sent = sending.send_application(Some(seq), message);
         kept.last_keepalive = now;
         session.stay(kept, sent)
     }
@@ -609,7 +564,7 @@ impl Session {
         match local_flow {
             FlowType::None => self.stay(binding, queue),
             FlowType::Unsequenced => {
-                let sent = queue.send_application(MaybeSeq::None, message);
+                let sent = queue.send_application(None, message);
                 kept.last_keepalive = now;
                 self.stay(kept, sent)
             }

@@ -1,7 +1,7 @@
 //! A session message of the peer, by its kind (FIXP 3.5 and 4.4 to 4.8).
 ghost use Rattle.std.specs.Prelude.{◌≡◌, ◌+◌, ◌≤◌, length};
 ghost use Rattle.queue.specs.View.{queue_of, OutsWf};
-ghost use Rattle.rules.specs.Names.answer;
+ghost use Rattle.rules.specs.Names.verdict;
 ghost use Rattle.rules.specs.Peer.{on_context, on_unsequenced_heartbeat, is_accept, on_applied, on_not_applied, on_message, is_delivery, on_peer};
 ghost use Rattle.session.specs.View.{view, SessWf, StepIs, closing_answer};
 
@@ -12,14 +12,11 @@ use types::binding::Binding;
 use types::ids::{ALL_ONES, Instant, Nanotime};
 use types::messages::{Context, PeerMessage};
 use types::output::Event;
-use types::reasons::{
-    AFTER_TERMINATE, CONTEXT_FOREIGN, FINISHED_RECEIVING, HEARTBEAT_SEQUENCED, NOT_APPLIED_FLOW,
-    Reason, TOPIC,
-};
+use types::reasons::{AFTER_TERMINATE, CONTEXT_FOREIGN, FINISHED_RECEIVING, HEARTBEAT_SEQUENCED, NOT_APPLIED_FLOW, Reason, TOPIC};
 
 /// Whether a delivery accepts a message.
 fn is_accepted(delivery: Delivery) -> bool
-    ensures { result ≡ is_accept (answer.Delivered delivery) }
+    ensures { result ≡ is_accept (Ok (verdict.Delivered delivery)) }
 {
     match delivery {
         Delivery::Accept { seq, retransmitted } => true,
@@ -32,11 +29,11 @@ fn is_accept(answer: Answer) -> bool
     ensures { result ≡ is_accept answer }
 {
     match answer {
-        Answer::Ok => false,
-        Answer::Delivered(delivery) => is_accepted(delivery),
-        Answer::Sent(seq) => false,
-        Answer::Batch(batch) => false,
-        Answer::Refused(refusal) => false,
+        Ok(Verdict::Done) => false,
+        Ok(Verdict::Delivered(delivery)) => is_accepted(delivery),
+        Ok(Verdict::Sent(seq)) => false,
+        Ok(Verdict::Batch(batch)) => false,
+        Err(refusal) => false,
     }
 }
 
@@ -45,19 +42,19 @@ fn closing_answer(message: PeerMessage) -> Answer
     ensures { result ≡ closing_answer message }
 {
     match message {
-        PeerMessage::Topic => Answer::Ok,
-        PeerMessage::Sequence(m) => Answer::Ok,
-        PeerMessage::Context(m) => Answer::Ok,
-        PeerMessage::UnsequencedHeartbeat => Answer::Ok,
-        PeerMessage::RetransmitRequest(m) => Answer::Ok,
-        PeerMessage::Retransmission(m) => Answer::Ok,
-        PeerMessage::RetransmitReject(m) => Answer::Ok,
-        PeerMessage::Terminate(m) => Answer::Ok,
-        PeerMessage::FinishedSending(m) => Answer::Ok,
-        PeerMessage::FinishedReceiving => Answer::Ok,
-        PeerMessage::Applied(m) => Answer::Delivered(Delivery::Discard),
-        PeerMessage::NotApplied(m) => Answer::Delivered(Delivery::Discard),
-        PeerMessage::MessageTemplate => Answer::Ok,
+        PeerMessage::Topic => Ok(Verdict::Done),
+        PeerMessage::Sequence(m) => Ok(Verdict::Done),
+        PeerMessage::Context(m) => Ok(Verdict::Done),
+        PeerMessage::UnsequencedHeartbeat => Ok(Verdict::Done),
+        PeerMessage::RetransmitRequest(m) => Ok(Verdict::Done),
+        PeerMessage::Retransmission(m) => Ok(Verdict::Done),
+        PeerMessage::RetransmitReject(m) => Ok(Verdict::Done),
+        PeerMessage::Terminate(m) => Ok(Verdict::Done),
+        PeerMessage::FinishedSending(m) => Ok(Verdict::Done),
+        PeerMessage::FinishedReceiving => Ok(Verdict::Done),
+        PeerMessage::Applied(m) => Ok(Verdict::Delivered(Delivery::Discard)),
+        PeerMessage::NotApplied(m) => Ok(Verdict::Delivered(Delivery::Discard)),
+        PeerMessage::MessageTemplate => Ok(Verdict::Done),
     }
 }
 
@@ -200,8 +197,7 @@ impl Session {
         ensures { StepIs result (queue_of queue) (on_applied now stamp event (view self) binding) }
     {
         let mut step = self.on_application(binding, queue, now, stamp);
-        let slot = step.answer;
-        let answer = slot.it;
+        let answer = step.answer;
         if !is_accept(answer) {
             return step;
         }

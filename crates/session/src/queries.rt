@@ -4,7 +4,7 @@ ghost use Rattle.rules.specs.Queries.{next_outbound_seq, next_inbound_seq, has_p
 ghost use Rattle.session.specs.View.{view};
 
 use crate::Session;
-use types::ids::{FlowType, MaybeSeq, SessionId};
+use types::ids::{FlowType, SeqNum, SessionId};
 
 impl Session {
     pub fn id(self) -> SessionId
@@ -28,23 +28,22 @@ impl Session {
     }
 
     /// The number of this side's next application message, if its flow has numbers.
-    pub fn next_outbound_seq(self) -> MaybeSeq
+    pub fn next_outbound_seq(self) -> Option<SeqNum>
         ensures { result ≡ next_outbound_seq (view self) }
     {
         let local_flow = self.local_flow;
         if local_flow.is_sequenced() {
             let next = self.outbound_next;
-            return MaybeSeq::Some(next);
+            return Some(next);
         }
-        MaybeSeq::None
+        None
     }
 
     /// The number of the peer's next live application message, if its flow has numbers.
-    pub fn next_inbound_seq(self) -> MaybeSeq
+    pub fn next_inbound_seq(self) -> Option<SeqNum>
         ensures { result ≡ next_inbound_seq (view self) }
     {
-        let slot = self.inbound_next;
-        let next = slot.it;
+        let next = self.inbound_next;
         next
     }
 
@@ -63,14 +62,14 @@ impl Session {
     }
 
     /// The NextSeqNo that this side announces when it binds.
-    pub fn announced_next_seq(self) -> MaybeSeq
+    pub fn announced_next_seq(self) -> Option<SeqNum>
         ensures { result ≡ announced_next_seq (view self) }
     {
         self.next_outbound_seq()
     }
 
     /// Whether a NextSeqNo of the peer would move its flow backwards.
-    pub fn regresses(self, next: MaybeSeq) -> bool
+    pub fn regresses(self, next: Option<SeqNum>) -> bool
         ensures { result ≡ regresses next (view self) }
     {
         if self.start_pending {
@@ -80,12 +79,10 @@ impl Session {
         if !remote_flow.is_sequenced() {
             return false;
         }
-        let MaybeSeq::Some(number) = next else {
+        let Some(number) = next else {
             return false;
         };
-        let slot = self.inbound_next;
-        let it = slot.it;
-        let MaybeSeq::Some(expected) = it else {
+        let Some(expected) = self.inbound_next else {
             return false;
         };
         number.0 < expected.0

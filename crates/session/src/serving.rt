@@ -10,20 +10,15 @@ use types::binding::Binding;
 use types::ids::{RetransmitRejectCode, TerminationCode};
 use types::messages::{MessageName, RetransmitReject, RetransmitRequest, SessionMessage};
 use types::output::Event;
-use types::parts::{MaybeProvider, Provider, ProviderSlot};
-use types::reasons::{
-    REQUEST_EMPTY, REQUEST_FLOW, REQUEST_FOREIGN, REQUEST_IN_PROGRESS, REQUEST_LIMIT,
-    REQUEST_RANGE, REQUEST_TERMINATING,
-};
+use types::parts::{Provider};
+use types::reasons::{REQUEST_EMPTY, REQUEST_FLOW, REQUEST_FOREIGN, REQUEST_IN_PROGRESS, REQUEST_LIMIT, REQUEST_RANGE, REQUEST_TERMINATING};
 
 impl Session {
     /// Whether a peer's request is being answered.
     fn is_serving(self) -> bool
         ensures { result ≡ is_serving (view self).provider }
     {
-        let slot = self.provider;
-        let it = slot.it;
-        let MaybeProvider::Some(provider) = it else {
+        let Some(provider) = self.provider else {
             return false;
         };
         true
@@ -123,15 +118,12 @@ impl Session {
         let mut session = self;
         let request_timestamp = message.timestamp;
         let from = message.from_seq_no;
-        let provider = ProviderSlot {
-            it: MaybeProvider::Some(Provider {
+        session.provider = Some(Provider {
                 request_timestamp,
                 from,
                 count: message.count,
                 sent: 0,
-            }),
-        };
-        session.provider = provider;
+            });
         let told = queue.event(Event::RetransmitRequested {
             from,
             count: message.count,

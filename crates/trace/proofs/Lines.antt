@@ -1,4 +1,5 @@
 -- Laws of a line that is put together part by part.
+use Rattle.std.specs.Prelude.{Option}
 use Prim.Native.Nat.{ℕ, zero, suc, ◌+◌, ◌-◌, ◌/◌, ◌%◌, ◌≤◌, ◌<◌}
 use mathlib.Core.Path.{◌≡◌, refl, ap, sym, ◌∙◌}
 use mathlib.Core.List.{List, [], ◌∷◌, ◌++◌, append_assoc, append-nil}
@@ -7,7 +8,7 @@ use native.Mathlib.Omega.{arith}
 use borrow.Author.Tests.{lt-ltb, le-ltb}
 use lib.ListN.{length, get_or, set, take}
 use lib.Seq.{take-suc, take-suc-set}
-use Rattle.rules.specs.Names.{MaybeSeq, SessionStatus, Answer}
+use Rattle.rules.specs.Names.{SeqNum, SessionStatus, Answer}
 use Rattle.rules.specs.Answers.{told}
 use Rattle.trace.specs.Ascii.{ascii}
 use Rattle.trace.specs.Text.{digits, decimal, colons, answer_text, status_text, expected_text, line_text, standing_text, counts_text, Adds}
@@ -39,14 +40,14 @@ pub colons-two : (w : List ℕ) (a b : ℕ) → (w ++ colons (a ∷ [])) ++ colo
 colons-two w a b = simp (append_assoc, append-nil)
 
 -- a line's fields, one after another
-pub line-parts : (index : ℕ) (x : Answer) (s : SessionStatus) (expected : MaybeSeq) (gaps outputs : ℕ)
+pub line-parts : (index : ℕ) (x : Answer) (s : SessionStatus) (expected : Option SeqNum) (gaps outputs : ℕ)
     → ((((decimal index ++ ascii " ") ++ answer_text (told x)) ++ ascii " ") ++ standing_text s expected) ++ counts_text gaps outputs
     ≡ line_text index x s expected gaps outputs
 unfolding line_text
 line-parts index x s expected gaps outputs = simp append_assoc
 
 -- the two halves of a line behind its answer
-pub standing-parts : (s : SessionStatus) (expected : MaybeSeq) → ((status_text s ++ ascii " ") ++ expected_text expected) ++ ascii " " ≡ standing_text s expected
+pub standing-parts : (s : SessionStatus) (expected : Option SeqNum) → ((status_text s ++ ascii " ") ++ expected_text expected) ++ ascii " " ≡ standing_text s expected
 standing-parts s expected = simp append_assoc
 
 pub counts-parts : (gaps outputs : ℕ) → ((decimal gaps ++ ascii " ") ++ decimal outputs) ++ ascii "\n" ≡ counts_text gaps outputs

@@ -1,9 +1,7 @@
 -- Worked examples of 01's format and lines, both sides of each edge: each holds by computing.
-use Rattle.std.specs.Prelude.{ℕ, zero, suc, ◌+◌, ◌/◌, ◌%◌, ◌≡◌, refl, true, false, List, [], ◌∷◌, ◌++◌, length, replicate}
+use Rattle.std.specs.Prelude.{ℕ, zero, suc, ◌+◌, ◌/◌, ◌%◌, ◌≡◌, refl, true, false, List, [], ◌∷◌, ◌++◌, length, replicate, Option, Some, None, Ok, Err}
 use Rattle.types.specs.Base.{all_ones}
-use Rattle.rules.specs.Names.{MaybeSeq, SessionId}
-use Rattle.rules.specs.Names.seq
-use Rattle.rules.specs.Names.duration
+use Rattle.rules.specs.Names.{SeqNum, SessionId}
 use Rattle.rules.specs.Names.flow
 use Rattle.rules.specs.Names.code
 use Rattle.rules.specs.Names.rejection
@@ -12,7 +10,7 @@ use Rattle.rules.specs.Names.peer
 use Rattle.rules.specs.Names.status
 use Rattle.rules.specs.Names.refusal
 use Rattle.rules.specs.Names.delivery
-use Rattle.rules.specs.Names.answer
+use Rattle.rules.specs.Names.verdict
 use Rattle.trace.specs.declared.records.Entry.{Entry}
 use Rattle.trace.specs.declared.records.Entry.TheVariants as entry
 use Rattle.trace.specs.Format.{number_at, bytes_at, maybe_seq, maybe_duration, reason_at, flow_of, termination_of, rejection_of, policy_of}
@@ -58,12 +56,12 @@ case kind body e = record { kind = kind; body = body; means = e }
 abbrev table : List Case
 table =
     -- "All ones means absent only in bind's next, FinishedSending's last, open's grace"
-    case 2 (little 8 1 ++ little 8 2 ++ little 8 all_ones) (entry.Bind 1 2 seq.None)
-    ∷ case 2 (little 8 1 ++ little 8 2 ++ little 8 18446744073709551614) (entry.Bind 1 2 (seq.Some (record { 0 = 18446744073709551614 })))
+    case 2 (little 8 1 ++ little 8 2 ++ little 8 all_ones) (entry.Bind 1 2 None)
+    ∷ case 2 (little 8 1 ++ little 8 2 ++ little 8 18446744073709551614) (entry.Bind 1 2 (Some (record { 0 = 18446744073709551614 })))
     ∷ case 32 (little 8 all_ones) (entry.Peer (peer.Sequence (record { next_seq_no = record { 0 = all_ones } })))
     ∷ case 33 (id ++ little 8 all_ones) (entry.Peer (peer.Context (record { session_id = the_id; next_seq_no = record { 0 = all_ones } })))
-    ∷ case 39 (id ++ little 8 all_ones) (entry.Peer (peer.FinishedSending (record { session_id = the_id; last_seq_no = seq.None })))
-    ∷ case 1 (open_with 1 4 4) (entry.Open the_id flow.Recoverable flow.None (record { max_gap_len = 100; max_retransmit_count = 10; max_pending_gaps = 2; retransmit_timeout = 1000; peer_silence_grace = duration.None; retransmit_stall_policy = policy.EventOnly }))
+    ∷ case 39 (id ++ little 8 all_ones) (entry.Peer (peer.FinishedSending (record { session_id = the_id; last_seq_no = None })))
+    ∷ case 1 (open_with 1 4 4) (entry.Open the_id flow.Recoverable flow.None (record { max_gap_len = 100; max_retransmit_count = 10; max_pending_gaps = 2; retransmit_timeout = 1000; peer_silence_grace = None; retransmit_stall_policy = policy.EventOnly }))
     -- "A code outside its list makes the record malformed."
     ∷ case 1 (open_with 0 4 4) entry.Malformed
     ∷ case 1 (open_with 1 5 4) entry.Malformed
@@ -102,18 +100,18 @@ unfolding number_at size_at
 torn = (refl, refl, refl, refl)
 
 -- ---- lines: of 01's sample, and the two ends of the rest
-abbrev seq_of : ℕ → MaybeSeq
-seq_of n = seq.Some (record { 0 = n })
+abbrev seq_of : ℕ → Option SeqNum
+seq_of n = Some (record { 0 = n })
 
 lines :
-    (line_text 0 answer.Ok status.Unbound (seq_of 1) 0 0 ≡ ascii "0 ok unbound 1 0 0\n")
-    × (line_text 2 (answer.Delivered (delivery.Accept (seq_of 1) false)) status.Established (seq_of 2) 0 0 ≡ ascii "2 accept:1 established 2 0 0\n")
-    × (line_text 3 answer.Ok status.Established (seq_of 4) 1 2 ≡ ascii "3 ok established 4 1 2\n")
-    × (line_text 6 (answer.Delivered (delivery.Accept (seq_of 3) true)) status.Established (seq_of 4) 0 1 ≡ ascii "6 replay:3 established 4 0 1\n")
-    × (line_text 0 (answer.Refused refusal.BadConfig) status.Unbound seq.None 0 0 ≡ ascii "0 refused:2 unbound - 0 0\n")
-    × (line_text 10 (answer.Delivered delivery.Discard) status.Terminating seq.None 64 6 ≡ ascii "10 discard terminating - 64 6\n")
-    × (line_text 99 (answer.Sent seq.None) status.Closing (seq_of 100) 0 0 ≡ ascii "99 sent closing 100 0 0\n")
-    × (line_text 1 (answer.Batch (record { from = record { 0 = 18446744073709551615 }; count = 4294967295 })) status.Established seq.None 0 2 ≡ ascii "1 batch:18446744073709551615:4294967295 established - 0 2\n")
+    (line_text 0 (Ok verdict.Done) status.Unbound (seq_of 1) 0 0 ≡ ascii "0 ok unbound 1 0 0\n")
+    × (line_text 2 (Ok (verdict.Delivered (delivery.Accept (seq_of 1) false))) status.Established (seq_of 2) 0 0 ≡ ascii "2 accept:1 established 2 0 0\n")
+    × (line_text 3 (Ok verdict.Done) status.Established (seq_of 4) 1 2 ≡ ascii "3 ok established 4 1 2\n")
+    × (line_text 6 (Ok (verdict.Delivered (delivery.Accept (seq_of 3) true))) status.Established (seq_of 4) 0 1 ≡ ascii "6 replay:3 established 4 0 1\n")
+    × (line_text 0 (Err refusal.BadConfig) status.Unbound None 0 0 ≡ ascii "0 refused:2 unbound - 0 0\n")
+    × (line_text 10 (Ok (verdict.Delivered delivery.Discard)) status.Terminating None 64 6 ≡ ascii "10 discard terminating - 64 6\n")
+    × (line_text 99 (Ok (verdict.Sent None)) status.Closing (seq_of 100) 0 0 ≡ ascii "99 sent closing 100 0 0\n")
+    × (line_text 1 (Ok (verdict.Batch (record { from = record { 0 = 18446744073709551615 }; count = 4294967295 }))) status.Established None 0 2 ≡ ascii "1 batch:18446744073709551615:4294967295 established - 0 2\n")
     × (end_text 0 ≡ ascii "end missing 0\n")
 unfolding digits line_text
 lines = (refl, refl, refl, refl, refl, refl, refl, refl, refl)

@@ -1,24 +1,14 @@
 -- Which bytes are a record of the trace, and what it means (01, "Trace program"). A number past the end reads 0: a length decides first.
-use Rattle.std.specs.Prelude.{ℕ, zero, suc, ◌+◌, ◌*◌, ◌-◌, Bool, ◌&&◌, List, [], ◌∷◌, length, get_or, leb, eqb, if◌then◌else◌}
+use Rattle.std.specs.Prelude.{ℕ, zero, suc, ◌+◌, ◌*◌, ◌-◌, Bool, ◌&&◌, List, [], ◌∷◌, length, get_or, leb, eqb, if◌then◌else◌, Option, Some, None}
 use Rattle.types.specs.Base.{all_ones}
 use Rattle.types.specs.Flows.{flow_number, termination_number, rejection_number, policy_number}
 use Rattle.types.specs.Reasons.{no_text, max_reason_len}
-use Rattle.rules.specs.Names.{SeqNum, Nanotime, SessionId, MaybeSeq, MaybeDuration, FlowType, TerminationCode, RetransmitRejectCode, RetransmitStallPolicy, FixpConfig, Reason, PeerMessage}
-use Rattle.rules.specs.Names.seq
-use Rattle.rules.specs.Names.duration
+use Rattle.rules.specs.Names.{SeqNum, Nanotime, SessionId, FlowType, TerminationCode, RetransmitRejectCode, RetransmitStallPolicy, FixpConfig, Reason, PeerMessage}
 use Rattle.rules.specs.Names.flow
 use Rattle.rules.specs.Names.code
 use Rattle.rules.specs.Names.rejection
 use Rattle.rules.specs.Names.policy
 use Rattle.rules.specs.Names.peer
-use Rattle.trace.specs.declared.codes.MaybeFlow.{MaybeFlow}
-use Rattle.trace.specs.declared.codes.MaybeFlow.TheVariants as maybe-flow
-use Rattle.trace.specs.declared.codes.MaybePolicy.{MaybePolicy}
-use Rattle.trace.specs.declared.codes.MaybePolicy.TheVariants as maybe-policy
-use Rattle.trace.specs.declared.codes.MaybeTermination.{MaybeTermination}
-use Rattle.trace.specs.declared.codes.MaybeTermination.TheVariants as maybe-code
-use Rattle.trace.specs.declared.codes.MaybeRejection.{MaybeRejection}
-use Rattle.trace.specs.declared.codes.MaybeRejection.TheVariants as maybe-rejection
 use Rattle.trace.specs.declared.records.Entry.{Entry}
 use Rattle.trace.specs.declared.records.Entry.TheVariants as entry
 use Rattle.trace.specs.declared.records.Record.{Record}
@@ -58,63 +48,63 @@ abbrev pub id_at : List ℕ → ℕ → SessionId
 id_at s at = record { 0 = u64_at s at; 1 = u64_at s (at + 8) }
 
 -- "All ones means absent only in bind's next, FinishedSending's last, open's grace"
-unfoldable pub maybe_seq : ℕ → MaybeSeq
-maybe_seq n = if eqb n all_ones then seq.None else seq.Some (record { 0 = n })
+unfoldable pub maybe_seq : ℕ → Option SeqNum
+maybe_seq n = if eqb n all_ones then None else Some (record { 0 = n })
 
-unfoldable pub maybe_duration : ℕ → MaybeDuration
-maybe_duration n = if eqb n all_ones then duration.None else duration.Some n
+unfoldable pub maybe_duration : ℕ → Option ℕ
+maybe_duration n = if eqb n all_ones then None else Some n
 
 -- "Reasons fill the rest of the record": its true length, and as many of its bytes as there is room for
 unfoldable pub reason_at : List ℕ → ℕ → Reason
 reason_at s at = record { bytes = bytes_at max_reason_len s at; len = length s - at }
 
 -- ---- codes: "A code outside its list makes the record malformed."
-unfoldable pub flow_of : ℕ → MaybeFlow
+unfoldable pub flow_of : ℕ → Option FlowType
 flow_of n =
-    if eqb n (flow_number flow.Recoverable) then maybe-flow.Some flow.Recoverable
-    else (if eqb n (flow_number flow.Idempotent) then maybe-flow.Some flow.Idempotent
-    else (if eqb n (flow_number flow.Unsequenced) then maybe-flow.Some flow.Unsequenced
-    else (if eqb n (flow_number flow.None) then maybe-flow.Some flow.None
-    else maybe-flow.None)))
+    if eqb n (flow_number flow.Recoverable) then Some flow.Recoverable
+    else (if eqb n (flow_number flow.Idempotent) then Some flow.Idempotent
+    else (if eqb n (flow_number flow.Unsequenced) then Some flow.Unsequenced
+    else (if eqb n (flow_number flow.None) then Some flow.None
+    else None)))
 
-unfoldable pub termination_of : ℕ → MaybeTermination
+unfoldable pub termination_of : ℕ → Option TerminationCode
 termination_of n =
-    if eqb n (termination_number code.Finished) then maybe-code.Some code.Finished
-    else (if eqb n (termination_number code.UnspecifiedError) then maybe-code.Some code.UnspecifiedError
-    else (if eqb n (termination_number code.ReRequestOutOfBounds) then maybe-code.Some code.ReRequestOutOfBounds
-    else (if eqb n (termination_number code.ReRequestInProgress) then maybe-code.Some code.ReRequestInProgress
-    else maybe-code.None)))
+    if eqb n (termination_number code.Finished) then Some code.Finished
+    else (if eqb n (termination_number code.UnspecifiedError) then Some code.UnspecifiedError
+    else (if eqb n (termination_number code.ReRequestOutOfBounds) then Some code.ReRequestOutOfBounds
+    else (if eqb n (termination_number code.ReRequestInProgress) then Some code.ReRequestInProgress
+    else None)))
 
-unfoldable pub rejection_of : ℕ → MaybeRejection
+unfoldable pub rejection_of : ℕ → Option RetransmitRejectCode
 rejection_of n =
-    if eqb n (rejection_number rejection.OutOfRange) then maybe-rejection.Some rejection.OutOfRange
-    else (if eqb n (rejection_number rejection.InvalidSession) then maybe-rejection.Some rejection.InvalidSession
-    else (if eqb n (rejection_number rejection.RequestLimitExceeded) then maybe-rejection.Some rejection.RequestLimitExceeded
-    else maybe-rejection.None))
+    if eqb n (rejection_number rejection.OutOfRange) then Some rejection.OutOfRange
+    else (if eqb n (rejection_number rejection.InvalidSession) then Some rejection.InvalidSession
+    else (if eqb n (rejection_number rejection.RequestLimitExceeded) then Some rejection.RequestLimitExceeded
+    else None))
 
-unfoldable pub policy_of : ℕ → MaybePolicy
+unfoldable pub policy_of : ℕ → Option RetransmitStallPolicy
 policy_of n =
-    if eqb n (policy_number policy.Terminate) then maybe-policy.Some policy.Terminate
-    else (if eqb n (policy_number policy.ReRequestAfterContextSwitch) then maybe-policy.Some policy.ReRequestAfterContextSwitch
-    else (if eqb n (policy_number policy.ReRequestAfterBatch) then maybe-policy.Some policy.ReRequestAfterBatch
-    else (if eqb n (policy_number policy.EventOnly) then maybe-policy.Some policy.EventOnly
-    else maybe-policy.None)))
+    if eqb n (policy_number policy.Terminate) then Some policy.Terminate
+    else (if eqb n (policy_number policy.ReRequestAfterContextSwitch) then Some policy.ReRequestAfterContextSwitch
+    else (if eqb n (policy_number policy.ReRequestAfterBatch) then Some policy.ReRequestAfterBatch
+    else (if eqb n (policy_number policy.EventOnly) then Some policy.EventOnly
+    else None)))
 
-abbrev pub with_flow : MaybeFlow → (FlowType → Entry) → Entry
-with_flow maybe-flow.None k = entry.Malformed
-with_flow (maybe-flow.Some f) k = k f
+abbrev pub with_flow : Option FlowType → (FlowType → Entry) → Entry
+with_flow None k = entry.Malformed
+with_flow (Some f) k = k f
 
-abbrev pub with_termination : MaybeTermination → (TerminationCode → Entry) → Entry
-with_termination maybe-code.None k = entry.Malformed
-with_termination (maybe-code.Some c) k = k c
+abbrev pub with_termination : Option TerminationCode → (TerminationCode → Entry) → Entry
+with_termination None k = entry.Malformed
+with_termination (Some c) k = k c
 
-abbrev pub with_rejection : MaybeRejection → (RetransmitRejectCode → Entry) → Entry
-with_rejection maybe-rejection.None k = entry.Malformed
-with_rejection (maybe-rejection.Some c) k = k c
+abbrev pub with_rejection : Option RetransmitRejectCode → (RetransmitRejectCode → Entry) → Entry
+with_rejection None k = entry.Malformed
+with_rejection (Some c) k = k c
 
-abbrev pub with_policy : MaybePolicy → (RetransmitStallPolicy → Entry) → Entry
-with_policy maybe-policy.None k = entry.Malformed
-with_policy (maybe-policy.Some p) k = k p
+abbrev pub with_policy : Option RetransmitStallPolicy → (RetransmitStallPolicy → Entry) → Entry
+with_policy None k = entry.Malformed
+with_policy (Some p) k = k p
 
 -- ---- bodies: they start at 20, after length, kind, instant and stamp
 abbrev pub header : ℕ

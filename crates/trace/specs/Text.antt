@@ -1,7 +1,6 @@
 -- What the trace program prints, byte for byte (01, "Trace program").
-use Rattle.std.specs.Prelude.{ℕ, zero, suc, ◌+◌, ◌/◌, ◌%◌, ◌≤◌, ◌≡◌, List, [], ◌∷◌, ◌++◌, take, ltb, if◌then◌else◌}
-use Rattle.rules.specs.Names.{MaybeSeq, SessionStatus, Answer}
-use Rattle.rules.specs.Names.seq
+use Rattle.std.specs.Prelude.{ℕ, zero, suc, ◌+◌, ◌/◌, ◌%◌, ◌≤◌, ◌≡◌, List, [], ◌∷◌, ◌++◌, take, ltb, if◌then◌else◌, Option, Some, None}
+use Rattle.rules.specs.Names.{SeqNum, SessionStatus, Answer}
 use Rattle.rules.specs.Names.status
 use Rattle.rules.specs.Answers.{Told, ok, accept, replay, discard, sent, batch, refused, told}
 use Rattle.trace.specs.Ascii.{ascii}
@@ -41,9 +40,9 @@ status_text status.Terminating = ascii "terminating"
 status_text status.Closing = ascii "closing"
 
 -- "expected number or `-`"
-abbrev pub expected_text : MaybeSeq → List ℕ
-expected_text seq.None = ascii "-"
-expected_text (seq.Some n) = decimal n.0
+abbrev pub expected_text : Option SeqNum → List ℕ
+expected_text None = ascii "-"
+expected_text (Some n) = decimal n.0
 
 -- the fields of a line, with a space between two of them
 abbrev pub spaced : List ℕ → List (List ℕ) → List ℕ
@@ -51,7 +50,7 @@ spaced w [] = w ++ ascii "\n"
 spaced w (v ∷ l) = w ++ (ascii " " ++ spaced v l)
 
 -- "A line holds index (from 0), answer, status after, expected number or `-`, number of gaps, outputs of this record."
-unfoldable pub line_text : ℕ → Answer → SessionStatus → MaybeSeq → ℕ → ℕ → List ℕ
+unfoldable pub line_text : ℕ → Answer → SessionStatus → Option SeqNum → ℕ → ℕ → List ℕ
 line_text index a s expected gaps outputs =
     spaced (decimal index) (answer_text (told a) ∷ status_text s ∷ expected_text expected ∷ decimal gaps ∷ decimal outputs ∷ [])
 
@@ -72,7 +71,7 @@ abbrev pub max_line : ℕ
 max_line = 144
 
 -- the two halves of a line behind its answer
-abbrev pub standing_text : SessionStatus → MaybeSeq → List ℕ
+abbrev pub standing_text : SessionStatus → Option SeqNum → List ℕ
 standing_text s expected = status_text s ++ (ascii " " ++ (expected_text expected ++ ascii " "))
 
 abbrev pub counts_text : ℕ → ℕ → List ℕ

@@ -7,79 +7,79 @@ use types::ids::{FlowType, RetransmitRejectCode, TerminationCode};
 
 /// A flow, if the code is one.
 #[derive(Clone, Copy)]
-pub enum MaybeFlow {
+pub enum Option<FlowType> {
     Some(FlowType),
     None,
 }
 
 /// A policy, if the code is one.
 #[derive(Clone, Copy)]
-pub enum MaybePolicy {
+pub enum Option<RetransmitStallPolicy> {
     Some(RetransmitStallPolicy),
     None,
 }
 
 /// A termination code, if the number is one.
 #[derive(Clone, Copy)]
-pub enum MaybeTermination {
+pub enum Option<TerminationCode> {
     Some(TerminationCode),
     None,
 }
 
 /// A rejection code, if the number is one.
 #[derive(Clone, Copy)]
-pub enum MaybeRejection {
+pub enum Option<RetransmitRejectCode> {
     Some(RetransmitRejectCode),
     None,
 }
 
 /// Flows 1 to 4.
-pub fn flow(code: u8) -> MaybeFlow
+pub fn flow(code: u8) -> Option<FlowType>
     ensures { result ≡ flow_of code }
 {
     match code {
-        1 => MaybeFlow::Some(FlowType::Recoverable),
-        2 => MaybeFlow::Some(FlowType::Idempotent),
-        3 => MaybeFlow::Some(FlowType::Unsequenced),
-        4 => MaybeFlow::Some(FlowType::None),
-        _ => MaybeFlow::None,
+        1 => Some(FlowType::Recoverable),
+        2 => Some(FlowType::Idempotent),
+        3 => Some(FlowType::Unsequenced),
+        4 => Some(FlowType::None),
+        _ => None,
     }
 }
 
 /// Policy 1 to 4.
-pub fn policy(code: u8) -> MaybePolicy
+pub fn policy(code: u8) -> Option<RetransmitStallPolicy>
     ensures { result ≡ policy_of code }
 {
     match code {
-        1 => MaybePolicy::Some(RetransmitStallPolicy::Terminate),
-        2 => MaybePolicy::Some(RetransmitStallPolicy::ReRequestAfterContextSwitch),
-        3 => MaybePolicy::Some(RetransmitStallPolicy::ReRequestAfterBatch),
-        4 => MaybePolicy::Some(RetransmitStallPolicy::EventOnly),
-        _ => MaybePolicy::None,
+        1 => Some(RetransmitStallPolicy::Terminate),
+        2 => Some(RetransmitStallPolicy::ReRequestAfterContextSwitch),
+        3 => Some(RetransmitStallPolicy::ReRequestAfterBatch),
+        4 => Some(RetransmitStallPolicy::EventOnly),
+        _ => None,
     }
 }
 
 /// Termination 1 to 4.
-pub fn termination(code: u8) -> MaybeTermination
+pub fn termination(code: u8) -> Option<TerminationCode>
     ensures { result ≡ termination_of code }
 {
     match code {
-        1 => MaybeTermination::Some(TerminationCode::Finished),
-        2 => MaybeTermination::Some(TerminationCode::UnspecifiedError),
-        3 => MaybeTermination::Some(TerminationCode::ReRequestOutOfBounds),
-        4 => MaybeTermination::Some(TerminationCode::ReRequestInProgress),
-        _ => MaybeTermination::None,
+        1 => Some(TerminationCode::Finished),
+        2 => Some(TerminationCode::UnspecifiedError),
+        3 => Some(TerminationCode::ReRequestOutOfBounds),
+        4 => Some(TerminationCode::ReRequestInProgress),
+        _ => None,
     }
 }
 
 /// Rejection 1 to 3.
-pub fn rejection(code: u8) -> MaybeRejection
+pub fn rejection(code: u8) -> Option<RetransmitRejectCode>
     ensures { result ≡ rejection_of code }
 {
     match code {
-        1 => MaybeRejection::Some(RetransmitRejectCode::OutOfRange),
-        2 => MaybeRejection::Some(RetransmitRejectCode::InvalidSession),
-        3 => MaybeRejection::Some(RetransmitRejectCode::RequestLimitExceeded),
-        _ => MaybeRejection::None,
+        1 => Some(RetransmitRejectCode::OutOfRange),
+        2 => Some(RetransmitRejectCode::InvalidSession),
+        3 => Some(RetransmitRejectCode::RequestLimitExceeded),
+        _ => None,
     }
 }

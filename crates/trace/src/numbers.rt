@@ -2,8 +2,7 @@
 ghost use Rattle.std.specs.Prelude.{◌≡◌, ◌+◌, ◌<◌, ◌^◌};
 ghost use Rattle.trace.specs.Format.{code_at, u16_at, u32_at, u64_at, id_at, maybe_seq, maybe_duration};
 
-use types::config::MaybeDuration;
-use types::ids::{ALL_ONES, MaybeSeq, SeqNum, SessionId};
+use types::ids::{ALL_ONES, SeqNum, SessionId};
 
 /// Length, kind, instant and stamp: a body starts after them.
 pub const HEADER: usize = 20;
@@ -57,21 +56,21 @@ pub fn id_at(s: &[u8], at: usize) -> SessionId
 }
 
 /// A number of which all ones means absent (01: bind's next, FinishedSending's last).
-pub fn maybe_seq(n: u64) -> MaybeSeq
+pub fn maybe_seq(n: u64) -> Option<SeqNum>
     ensures { result ≡ maybe_seq n }
 {
     if n == ALL_ONES {
-        return MaybeSeq::None;
+        return None;
     }
-    MaybeSeq::Some(SeqNum(n))
+    Some(SeqNum(n))
 }
 
 /// A duration of which all ones means absent (01: open's grace).
-pub fn maybe_duration(n: u64) -> MaybeDuration
+pub fn maybe_duration(n: u64) -> Option<u64>
     ensures { result ≡ maybe_duration n }
 {
     if n == ALL_ONES {
-        return MaybeDuration::None;
+        return None;
     }
-    MaybeDuration::Some(n)
+    Some(n)
 }

@@ -5,18 +5,11 @@ ghost use Rattle.trace.specs.Format.{config_at, open_of, bind_of, peer_reject_of
 ghost use Rattle.trace.specs.Format.{sequence_of, context_of, request_of, retransmission_of, finished_of, applied_of, not_applied_of};
 ghost use Rattle.trace.specs.Format.{exactly, at_least, peer_of, entry_of, reason_at, reason_of, framed, decode};
 
-use crate::codes::{
-    MaybeFlow, MaybePolicy, MaybeRejection, MaybeTermination, flow, policy, rejection, termination,
-};
+use crate::codes::{FlowType, RetransmitStallPolicy, RetransmitRejectCode, TerminationCode, flow, policy, rejection, termination};
 use crate::numbers::{HEADER, byte_at, id_at, maybe_duration, maybe_seq, u16_at, u32_at, u64_at};
 use types::config::{FixpConfig, RetransmitStallPolicy};
-use types::ids::{
-    FlowType, Instant, MaybeSeq, Nanotime, RetransmitRejectCode, SeqNum, SessionId, TerminationCode,
-};
-use types::messages::{
-    Applied, Context, FinishedSending, NotApplied, PeerMessage, Retransmission, RetransmitReject,
-    RetransmitRequest, Sequence, Terminate,
-};
+use types::ids::{FlowType, Instant, Nanotime, RetransmitRejectCode, SeqNum, SessionId, TerminationCode};
+use types::messages::{Applied, Context, FinishedSending, NotApplied, PeerMessage, Retransmission, RetransmitReject, RetransmitRequest, Sequence, Terminate};
 use types::reasons::{MAX_REASON_LEN, Reason};
 
 /// What a record asks for. A reason stands beside it.
@@ -31,7 +24,7 @@ pub enum Entry {
     Bind {
         local_keepalive: u64,
         remote_keepalive: u64,
-        next: MaybeSeq,
+        next: Option<SeqNum>,
     },
     Release,
     Application,
@@ -93,13 +86,13 @@ fn config_at(s: &[u8], retransmit_stall_policy: RetransmitStallPolicy) -> FixpCo
 fn open_at(s: &[u8]) -> Entry
     ensures { result ≡ open_of s.now }
 {
-    let MaybeFlow::Some(local_flow) = flow(byte_at(s, 36)) else {
+    let Some(local_flow) = flow(byte_at(s, 36)) else {
         return Entry::Malformed;
     };
-    let MaybeFlow::Some(remote_flow) = flow(byte_at(s, 37)) else {
+    let Some(remote_flow) = flow(byte_at(s, 37)) else {
         return Entry::Malformed;
     };
-    let MaybePolicy::Some(stall) = policy(byte_at(s, 68)) else {
+    let Some(stall) = policy(byte_at(s, 68)) else {
         return Entry::Malformed;
     };
     let id = id_at(s, 20);
@@ -171,7 +164,7 @@ fn retransmission_at(s: &[u8]) -> PeerMessage
 fn peer_reject_at(s: &[u8]) -> Entry
     ensures { result ≡ peer_reject_of s.now }
 {
-    let MaybeRejection::Some(code) = rejection(byte_at(s, 44)) else {
+    let Some(code) = rejection(byte_at(s, 44)) else {
         return Entry::Malformed;
     };
     Entry::Peer(PeerMessage::RetransmitReject(RetransmitReject {
@@ -185,7 +178,7 @@ fn peer_reject_at(s: &[u8]) -> Entry
 fn peer_terminate_at(s: &[u8]) -> Entry
     ensures { result ≡ peer_terminate_of s.now }
 {
-    let MaybeTermination::Some(code) = termination(byte_at(s, 36)) else {
+    let Some(code) = termination(byte_at(s, 36)) else {
         return Entry::Malformed;
     };
     Entry::Peer(PeerMessage::Terminate(Terminate {
@@ -229,7 +222,7 @@ fn not_applied_at(s: &[u8]) -> PeerMessage
 fn terminate_at(s: &[u8]) -> Entry
     ensures { result ≡ terminate_of s.now }
 {
-    let MaybeTermination::Some(code) = termination(byte_at(s, 20)) else {
+    let Some(code) = termination(byte_at(s, 20)) else {
         return Entry::Malformed;
     };
     Entry::Terminate(code)
@@ -239,7 +232,7 @@ fn terminate_at(s: &[u8]) -> Entry
 fn reject_at(s: &[u8]) -> Entry
     ensures { result ≡ reject_of s.now }
 {
-    let MaybeRejection::Some(code) = rejection(byte_at(s, 20)) else {
+    let Some(code) = rejection(byte_at(s, 20)) else {
         return Entry::Malformed;
     };
     Entry::Reject(code)

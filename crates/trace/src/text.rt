@@ -6,7 +6,6 @@ ghost use Rattle.trace.specs.Text.{digits, decimal, most_digits, colons, answer_
 ghost use Rattle.trace.specs.Text.{line_text, first_text, end_text, stop_text, max_line, standing_text, counts_text, Adds};
 
 use types::answers::{Answer, Delivery, Refusal, SessionStatus};
-use types::ids::MaybeSeq;
 
 /// Room for the longest line: the one place that names it.
 pub const MAX_LINE: usize = 144;
@@ -90,13 +89,13 @@ fn push_colon(out: &mut [u8], at: usize, n: u64) -> usize
 }
 
 /// A number after a colon, if there is one.
-fn push_maybe_colon(out: &mut [u8], at: usize, seq: MaybeSeq) -> usize
+fn push_maybe_colon(out: &mut [u8], at: usize, seq: Option<SeqNum>) -> usize
     requires { at + 21 ≤ length out.old }
     ensures { Adds out.old at (colons (numbers seq)) 21 out.new result }
 {
     match seq {
-        MaybeSeq::Some(n) => push_colon(out, at, n.0),
-        MaybeSeq::None => at,
+        Some(n) => push_colon(out, at, n.0),
+        None => at,
     }
 }
 
@@ -124,18 +123,18 @@ fn push_answer(out: &mut [u8], at: usize, answer: Answer) -> usize
     ensures { Adds out.old at (answer_text (told answer)) 47 out.new result }
 {
     match answer {
-        Answer::Ok => push_word(out, at, b"ok"),
-        Answer::Delivered(d) => push_delivery(out, at, d),
-        Answer::Sent(seq) => {
+        Ok(Verdict::Done) => push_word(out, at, b"ok"),
+        Ok(Verdict::Delivered(d)) => push_delivery(out, at, d),
+        Ok(Verdict::Sent(seq)) => {
             let next = push_word(out, at, b"sent");
             push_maybe_colon(out, next, seq)
         }
-        Answer::Batch(b) => {
+        Ok(Verdict::Batch(b)) => {
             let next = push_word(out, at, b"batch");
             let from = push_colon(out, next, b.from.0);
             push_colon(out, from, wide(b.count))
         }
-        Answer::Refused(r) => {
+        Err(r) => {
             let next = push_word(out, at, b"refused");
             push_colon(out, next, refusal_number(r))
         }
@@ -156,18 +155,18 @@ fn push_status(out: &mut [u8], at: usize, status: SessionStatus) -> usize
 }
 
 /// The expected number or `-`.
-fn push_expected(out: &mut [u8], at: usize, expected: MaybeSeq) -> usize
+fn push_expected(out: &mut [u8], at: usize, expected: Option<SeqNum>) -> usize
     requires { at + 20 ≤ length out.old }
     ensures { Adds out.old at (expected_text expected) 20 out.new result }
 {
     match expected {
-        MaybeSeq::Some(n) => push_number(out, at, n.0),
-        MaybeSeq::None => push_word(out, at, b"-"),
+        Some(n) => push_number(out, at, n.0),
+        None => push_word(out, at, b"-"),
     }
 }
 
 /// Status after and expected number.
-fn push_standing(out: &mut [u8], at: usize, status: SessionStatus, expected: MaybeSeq) -> usize
+fn push_standing(out: &mut [u8], at: usize, status: SessionStatus, expected: Option<SeqNum>) -> usize
     requires { at + 33 ≤ length out.old }
     ensures { Adds out.old at (standing_text status expected) 33 out.new result }
 {
@@ -195,7 +194,7 @@ pub fn record_line(
     index: u64,
     answer: Answer,
     status: SessionStatus,
-    expected: MaybeSeq,
+    expected: Option<SeqNum>,
     gaps: u64,
     outputs: u64,
 ) -> usize

@@ -1,4 +1,6 @@
+pub mod Answers
 pub mod Base
+pub mod Codes
 pub mod Flows
 pub mod States
 pub mod Messages

@@ -1,25 +1,13 @@
 -- Where a binding is, and a binding with one field another.
-use Rattle.std.specs.Prelude.{ℕ, Bool, true, false}
+use Rattle.std.specs.Prelude.{ℕ, Bool, true, false, Option, Some, None}
 use Rattle.types.specs.declared.ids.Instant.{Instant}
 use Rattle.types.specs.declared.binding.BindState.{BindState}
 use Rattle.types.specs.declared.binding.BindState.TheVariants as state
 use Rattle.types.specs.declared.binding.Binding.{Binding}
-use Rattle.types.specs.declared.binding.MaybeBinding.{MaybeBinding}
-use Rattle.types.specs.declared.binding.MaybeBinding.TheVariants as linked
 use Rattle.types.specs.declared.binding.Bound.{Bound}
 use Rattle.types.specs.declared.binding.Bound.TheVariants as bound
-use Rattle.types.specs.declared.answers.Answer.{Answer}
-use Rattle.types.specs.declared.answers.Answer.TheVariants as answer
 use Rattle.types.specs.declared.answers.SessionStatus.{SessionStatus}
 use Rattle.types.specs.declared.answers.SessionStatus.TheVariants as status
-
--- whether an answer is a refusal: equal to `is_refused` of calls, specs/View.antt
-abbrev pub is_refused : Answer → Bool
-is_refused answer.Ok = false
-is_refused (answer.Delivered d) = false
-is_refused (answer.Sent n) = false
-is_refused (answer.Batch b) = false
-is_refused (answer.Refused r) = true
 
 abbrev pub is_stay : Bound → Bool
 is_stay bound.Stay = true
@@ -41,14 +29,14 @@ status_of (state.Terminating t c) = status.Terminating
 status_of (state.Closing d) = status.Closing
 
 -- what a line of the trace prints after the answer
-abbrev pub link_status : MaybeBinding → SessionStatus
-link_status linked.None = status.Unbound
-link_status (linked.Some b) = status_of b.state.it
+abbrev pub link_status : Option Binding → SessionStatus
+link_status None = status.Unbound
+link_status (Some b) = status_of b.state
 
 abbrev pub binding : BindState → ℕ → ℕ → Instant → Instant → Bool → Binding
 binding t l r k h q =
     record {
-      state = record { it = t };
+      state = t;
       local_keepalive = l;
       remote_keepalive = r;
       last_keepalive = k;
@@ -62,15 +50,15 @@ with_state t b = binding t b.local_keepalive b.remote_keepalive b.last_keepalive
 
 -- this side has just sent an application message or a heartbeat
 abbrev pub with_keepalive : Instant → Binding → Binding
-with_keepalive now b = binding b.state.it b.local_keepalive b.remote_keepalive now b.last_received b.in_sequence
+with_keepalive now b = binding b.state b.local_keepalive b.remote_keepalive now b.last_received b.in_sequence
 
 -- the peer has just sent something
 abbrev pub with_received : Instant → Binding → Binding
-with_received now b = binding b.state.it b.local_keepalive b.remote_keepalive b.last_keepalive now b.in_sequence
+with_received now b = binding b.state b.local_keepalive b.remote_keepalive b.last_keepalive now b.in_sequence
 
 -- whether the receiver can number this side's next application message by itself
 abbrev pub with_in_sequence : Bool → Binding → Binding
-with_in_sequence q b = binding b.state.it b.local_keepalive b.remote_keepalive b.last_keepalive b.last_received q
+with_in_sequence q b = binding b.state b.local_keepalive b.remote_keepalive b.last_keepalive b.last_received q
 
 -- a session message other than a Sequence switches the context
 abbrev pub leave_sequence : Binding → Binding

@@ -1,13 +1,13 @@
 //! What a call answers (01, "Refusal numbers" and "Trace program").
-ghost use Rattle.std.specs.Prelude.{◌≡◌};
-ghost use Rattle.types.specs.States.{is_refused};
-
-use crate::ids::{MaybeSeq, SeqNum};
+use crate::ids::SeqNum;
 
 /// What becomes of an application message.
 #[derive(Clone, Copy)]
 pub enum Delivery {
-    Accept { seq: MaybeSeq, retransmitted: bool },
+    Accept {
+        seq: Option<SeqNum>,
+        retransmitted: bool,
+    },
     Discard,
 }
 
@@ -65,26 +65,11 @@ pub enum Refusal {
     },
 }
 
-/// What a call answers.
+/// What a call that is not refused answers. A call's answer is `Result<Verdict, Refusal>`.
 #[derive(Clone, Copy)]
-pub enum Answer {
-    Ok,
+pub enum Verdict {
+    Done,
     Delivered(Delivery),
-    Sent(MaybeSeq),
+    Sent(Option<SeqNum>),
     Batch(RetransmitBatch),
-    Refused(Refusal),
-}
-
-impl Answer {
-    pub fn is_refused(self) -> bool
-        ensures { result ≡ is_refused self }
-    {
-        match self {
-            Answer::Ok => false,
-            Answer::Delivered(delivery) => false,
-            Answer::Sent(seq) => false,
-            Answer::Batch(batch) => false,
-            Answer::Refused(refusal) => true,
-        }
-    }
 }

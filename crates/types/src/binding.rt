@@ -3,7 +3,7 @@ ghost use Rattle.std.specs.Prelude.{◌≡◌};
 ghost use Rattle.types.specs.States.{is_established, is_closing, is_stay, status_of, leave_sequence};
 
 use crate::answers::SessionStatus;
-use crate::ids::{Instant, MaybeInstant, TerminationCode};
+use crate::ids::{Instant, TerminationCode};
 use crate::reasons::Reason;
 
 /// Whether a step kept or ended the binding.
@@ -17,10 +17,7 @@ impl Bound {
     pub fn is_stay(self) -> bool
         ensures { result ≡ is_stay self }
     {
-        match self {
-            Bound::Stay => true,
-            Bound::Unbind => false,
-        }
+        matches!(self, Bound::Stay)
     }
 }
 
@@ -33,29 +30,14 @@ pub enum BindState {
         code: TerminationCode,
     },
     Closing {
-        deadline: MaybeInstant,
+        deadline: Option<Instant>,
     },
-}
-
-/// The state in a struct of its own: a field that is an enum is not stored to.
-#[derive(Clone, Copy)]
-pub struct StateSlot {
-    pub it: BindState,
-}
-
-impl StateSlot {
-    pub fn get(self) -> BindState
-        ensures { result ≡ self.it }
-    {
-        let it = self.it;
-        it
-    }
 }
 
 /// A session bound to one transport. Keepalives are nanoseconds.
 #[derive(Clone, Copy)]
 pub struct Binding {
-    pub state: StateSlot,
+    pub state: BindState,
     pub local_keepalive: u64,
     pub remote_keepalive: u64,
     /// When this side last sent an application message or a heartbeat.
@@ -68,39 +50,25 @@ pub struct Binding {
 
 impl Binding {
     pub fn status(self) -> SessionStatus
-        ensures { result ≡ status_of self.state.it }
+        ensures { result ≡ status_of self.state }
     {
-        let slot = self.state;
-        let state = slot.it;
-        match state {
+        match self.state {
             BindState::Established => SessionStatus::Established,
-            BindState::Terminating { sent_at, code } => SessionStatus::Terminating,
-            BindState::Closing { deadline } => SessionStatus::Closing,
+            BindState::Terminating { .. } => SessionStatus::Terminating,
+            BindState::Closing { .. } => SessionStatus::Closing,
         }
     }
 
     pub fn is_established(self) -> bool
-        ensures { result ≡ is_established self.state.it }
+        ensures { result ≡ is_established self.state }
     {
-        let slot = self.state;
-        let state = slot.it;
-        match state {
-            BindState::Established => true,
-            BindState::Terminating { sent_at, code } => false,
-            BindState::Closing { deadline } => false,
-        }
+        matches!(self.state, BindState::Established)
     }
 
     pub fn is_closing(self) -> bool
-        ensures { result ≡ is_closing self.state.it }
+        ensures { result ≡ is_closing self.state }
     {
-        let slot = self.state;
-        let state = slot.it;
-        match state {
-            BindState::Established => false,
-            BindState::Terminating { sent_at, code } => false,
-            BindState::Closing { deadline } => true,
-        }
+        matches!(self.state, BindState::Closing { .. })
     }
 
     /// This side sent a session message other than a Sequence: the receiver may no longer number its next application message by itself, so that
@@ -113,16 +81,9 @@ impl Binding {
     }
 }
 
-/// A binding, if there is one.
-#[derive(Clone, Copy)]
-pub enum MaybeBinding {
-    Some(Binding),
-    None,
-}
-
-/// The binding of a record, with the reason of this side's Terminate beside it.
+/// The binding of a record, if it is bound, with the reason of this side's Terminate beside it.
 #[derive(Clone, Copy)]
 pub struct Link {
-    pub binding: MaybeBinding,
+    pub binding: Option<Binding>,
     pub reason: Reason,
 }

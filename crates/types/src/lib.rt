@@ -3,6 +3,7 @@
 
 pub mod answers;
 pub mod binding;
+pub mod codes;
 pub mod config;
 pub mod ids;
 pub mod messages;

@@ -1,8 +1,8 @@
-//! The session messages in scope (messages.rs). A reason stands beside its message: an enum holds no array.
+//! The session messages in scope (messages.rs). A reason stands beside its message.
 ghost use Rattle.std.specs.Prelude.{◌≡◌};
 ghost use Rattle.types.specs.Messages.{name_of};
 
-use crate::ids::{MaybeSeq, Nanotime, RetransmitRejectCode, SeqNum, SessionId, TerminationCode};
+use crate::ids::{Nanotime, RetransmitRejectCode, SeqNum, SessionId, TerminationCode};
 
 /// Announces the number of the next application message (FIXP 3.5.2).
 #[derive(Clone, Copy)]
@@ -54,7 +54,7 @@ pub struct Terminate {
 #[derive(Clone, Copy)]
 pub struct FinishedSending {
     pub session_id: SessionId,
-    pub last_seq_no: MaybeSeq,
+    pub last_seq_no: Option<SeqNum>,
 }
 
 /// The answer to FinishedSending (FIXP 4.7.2).
@@ -121,17 +121,17 @@ impl PeerMessage {
     {
         match self {
             PeerMessage::Topic => MessageName::Topic,
-            PeerMessage::Sequence(m) => MessageName::Sequence,
-            PeerMessage::Context(m) => MessageName::Context,
+            PeerMessage::Sequence(_) => MessageName::Sequence,
+            PeerMessage::Context(_) => MessageName::Context,
             PeerMessage::UnsequencedHeartbeat => MessageName::UnsequencedHeartbeat,
-            PeerMessage::RetransmitRequest(m) => MessageName::RetransmitRequest,
-            PeerMessage::Retransmission(m) => MessageName::Retransmission,
-            PeerMessage::RetransmitReject(m) => MessageName::RetransmitReject,
-            PeerMessage::Terminate(m) => MessageName::Terminate,
-            PeerMessage::FinishedSending(m) => MessageName::FinishedSending,
+            PeerMessage::RetransmitRequest(_) => MessageName::RetransmitRequest,
+            PeerMessage::Retransmission(_) => MessageName::Retransmission,
+            PeerMessage::RetransmitReject(_) => MessageName::RetransmitReject,
+            PeerMessage::Terminate(_) => MessageName::Terminate,
+            PeerMessage::FinishedSending(_) => MessageName::FinishedSending,
             PeerMessage::FinishedReceiving => MessageName::FinishedReceiving,
-            PeerMessage::Applied(m) => MessageName::Applied,
-            PeerMessage::NotApplied(m) => MessageName::NotApplied,
+            PeerMessage::Applied(_) => MessageName::Applied,
+            PeerMessage::NotApplied(_) => MessageName::NotApplied,
             PeerMessage::MessageTemplate => MessageName::MessageTemplate,
         }
     }

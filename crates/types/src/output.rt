@@ -2,7 +2,7 @@
 ghost use Rattle.std.specs.Prelude.{◌≡◌};
 ghost use Rattle.types.specs.Outputs.{output, output_of};
 
-use crate::ids::{MaybeSeq, RetransmitRejectCode, SeqNum, TerminationCode};
+use crate::ids::{RetransmitRejectCode, SeqNum, TerminationCode};
 use crate::messages::{MessageName, NotApplied, SessionMessage};
 use crate::reasons::Reason;
 
@@ -50,7 +50,7 @@ pub enum Event {
     KeepaliveLapsed,
     ProtocolViolation,
     PeerFinishedSending {
-        last_seq_no: MaybeSeq,
+        last_seq_no: Option<SeqNum>,
     },
     Ignored(MessageName),
 }
@@ -59,7 +59,10 @@ pub enum Event {
 #[derive(Clone, Copy)]
 pub enum Said {
     Send(SessionMessage),
-    SendApplication { seq: MaybeSeq, message: NotApplied },
+    SendApplication {
+        seq: Option<SeqNum>,
+        message: NotApplied,
+    },
     CloseTransport,
     Event(Event),
 }
@@ -101,16 +104,11 @@ impl Line {
     pub fn output(self, kept: Reason, given: Reason) -> Output
         ensures { result ≡ output_of kept given self }
     {
-        let said = self.said;
-        let reason = self.reason;
-        let quote = self.quote;
-        match quote {
-            Quote::None => {
-                let none = Reason::none();
-                Output::new(said, reason, none)
-            }
-            Quote::Kept => Output::new(said, reason, kept),
-            Quote::Given => Output::new(said, reason, given),
-        }
+        let text = match self.quote {
+            Quote::None => Reason::none(),
+            Quote::Kept => kept,
+            Quote::Given => given,
+        };
+        Output::new(self.said, self.reason, text)
     }
 }

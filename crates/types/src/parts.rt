@@ -1,21 +1,11 @@
-//! The parts of a session (session.rs, Gap to Provider). A part that may be absent is an enum of its own, and stands in a slot:
-//! a field that is an enum is not stored to.
-ghost use Rattle.std.specs.Prelude.{◌≡◌};
-
-use crate::ids::{Instant, MaybeSeq, Nanotime, SeqNum};
+//! The parts of a session (session.rs, Gap to Provider).
+use crate::ids::{Instant, Nanotime, SeqNum};
 
 /// A half-open range of sequence numbers, from..end.
 #[derive(Clone, Copy)]
 pub struct Gap {
     pub from: SeqNum,
     pub end: SeqNum,
-}
-
-/// What a list of gaps has at an end.
-#[derive(Clone, Copy)]
-pub enum MaybeGap {
-    Some(Gap),
-    None,
 }
 
 /// This side's RetransmitRequest in flight.
@@ -34,25 +24,13 @@ pub struct Outstanding {
     pub stall_reported: bool,
 }
 
-#[derive(Clone, Copy)]
-pub enum MaybeOutstanding {
-    Some(Outstanding),
-    None,
-}
-
 /// The peer has sent FinishedSending; on a sequenced flow `end` is LastSeqNo + 1 (FIXP 4.7).
 #[derive(Clone, Copy)]
 pub struct PeerFinished {
     /// FinishedReceiving has gone out (FIXP 4.7.2).
     pub receiving_sent: bool,
     /// On a sequenced flow LastSeqNo + 1: no NextSeqNo may pass it any more (FIXP 6.3).
-    pub end: MaybeSeq,
-}
-
-#[derive(Clone, Copy)]
-pub enum MaybePeerFinished {
-    Some(PeerFinished),
-    None,
+    pub end: Option<SeqNum>,
 }
 
 /// A batch being received: the next message is `next`, and `remaining` belong to it, at least one.
@@ -62,12 +40,6 @@ pub struct Replay {
     pub remaining: u32,
 }
 
-#[derive(Clone, Copy)]
-pub enum MaybeReplay {
-    Some(Replay),
-    None,
-}
-
 /// A peer's RetransmitRequest being answered.
 #[derive(Clone, Copy)]
 pub struct Provider {
@@ -75,80 +47,4 @@ pub struct Provider {
     pub from: SeqNum,
     pub count: u32,
     pub sent: u32,
-}
-
-#[derive(Clone, Copy)]
-pub enum MaybeProvider {
-    Some(Provider),
-    None,
-}
-
-#[derive(Clone, Copy)]
-pub struct SeqSlot {
-    pub it: MaybeSeq,
-}
-
-impl SeqSlot {
-    pub fn get(self) -> MaybeSeq
-        ensures { result ≡ self.it }
-    {
-        let it = self.it;
-        it
-    }
-}
-
-#[derive(Clone, Copy)]
-pub struct OutstandingSlot {
-    pub it: MaybeOutstanding,
-}
-
-impl OutstandingSlot {
-    pub fn get(self) -> MaybeOutstanding
-        ensures { result ≡ self.it }
-    {
-        let it = self.it;
-        it
-    }
-}
-
-#[derive(Clone, Copy)]
-pub struct ReplaySlot {
-    pub it: MaybeReplay,
-}
-
-impl ReplaySlot {
-    pub fn get(self) -> MaybeReplay
-        ensures { result ≡ self.it }
-    {
-        let it = self.it;
-        it
-    }
-}
-
-#[derive(Clone, Copy)]
-pub struct ProviderSlot {
-    pub it: MaybeProvider,
-}
-
-impl ProviderSlot {
-    pub fn get(self) -> MaybeProvider
-        ensures { result ≡ self.it }
-    {
-        let it = self.it;
-        it
-    }
-}
-
-#[derive(Clone, Copy)]
-pub struct PeerFinishedSlot {
-    pub it: MaybePeerFinished,
-}
-
-impl PeerFinishedSlot {
-    pub fn get(self) -> MaybePeerFinished
-        ensures { result ≡ self.it }
-    {
-        let it = self.it;
-        it
-    }
 }

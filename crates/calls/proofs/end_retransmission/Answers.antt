@@ -1,4 +1,5 @@
 -- Refused in the order of the table, then of the Rust; else the step.
+use Rattle.std.specs.Prelude.{Some}
 use mathlib.Core.Path.{◌∙◌}
 use Rattle.rules.specs.Local.{end_refused, end_retransmission}
 use Rattle.rules.specs.Calls.{within}

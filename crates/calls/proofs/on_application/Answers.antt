@@ -1,4 +1,5 @@
 -- Refused in the order of the table; else the step.
+use Rattle.std.specs.Prelude.{Some}
 use borrow.Author.Tests.{leb-true}
 use native.Mathlib.Omega.{arith}
 use Prim.Native.Nat.{◌+◌}

@@ -1,8 +1,9 @@
 -- Only the configuration is looked at; each part is the new one.
+use Rattle.std.specs.Prelude.{Ok}
 use native.Mathlib.Omega.{arith}
 use mathlib.Core.Path.{ap, ◌∙◌}
 use Rattle.rules.specs.Names.{FixpConfig}
-use Rattle.rules.specs.Names.answer
+use Rattle.rules.specs.Names.verdict
 use Rattle.rules.specs.State.{Sess}
 use Rattle.rules.specs.Binding.{new_session}
 use Rattle.session.proofs.Laws.{is_false, is_true}
@@ -31,5 +32,5 @@ returns c =
     (record {
       session = c.new-session-2.ensures.wf;
       queue = c.new-queue.ensures.wf;
-      is = λ i. record { world = record { session = c.new-session-2.ensures.is i; link = c.unlink-link.ensures i; queue = c.new-queue.ensures.is i }; answer = answer.Ok };
+      is = λ i. record { world = record { session = c.new-session-2.ensures.is i; link = c.unlink-link.ensures i; queue = c.new-queue.ensures.is i }; answer = Ok verdict.Done };
     })

@@ -1,5 +1,6 @@
 -- Nothing but a bad record refuses it.
-use Rattle.rules.specs.Names.answer
+use Rattle.std.specs.Prelude.{Ok}
+use Rattle.rules.specs.Names.verdict
 use Rattle.rules.specs.Local.{passes}
 use Rattle.queue.specs.View.{queue_of}
 use Rattle.session.proofs.Laws.{is_false, is_true}
@@ -13,4 +14,4 @@ pub release_binding_state-released-requires : goal.release_binding_state-release
 release_binding_state-released-requires c = good-session c.args.session c.args.link c.args.queue (is_true c.is_good.ensures c.if-not-is_good.false)
 
 pub returns : goal.returns
-returns c = answer-as _ passes _ _ c.args.session c.args.link c.args.queue (of-good c.args.session c.args.link c.args.queue (is_true c.is_good.ensures c.if-not-is_good.false) _ _) (record { session = c.release_binding_state-released.ensures.wf; queue = good-queue c.args.session c.args.link c.args.queue (is_true c.is_good.ensures c.if-not-is_good.false); is = λ i. record { world = record { session = c.release_binding_state-released.ensures.is i; link = c.unlink-none.ensures i; queue = queue_of c.args.queue }; answer = answer.Ok } })
+returns c = answer-as _ passes _ _ c.args.session c.args.link c.args.queue (of-good c.args.session c.args.link c.args.queue (is_true c.is_good.ensures c.if-not-is_good.false) _ _) (record { session = c.release_binding_state-released.ensures.wf; queue = good-queue c.args.session c.args.link c.args.queue (is_true c.is_good.ensures c.if-not-is_good.false); is = λ i. record { world = record { session = c.release_binding_state-released.ensures.is i; link = c.unlink-none.ensures i; queue = queue_of c.args.queue }; answer = Ok verdict.Done } })

@@ -1,4 +1,5 @@
 -- Every check of serving passes.
+use Rattle.std.specs.Prelude.{None}
 use borrow.Author.Tests.{le-ltb, ne_eqb}
 use native.Mathlib.Omega.{arith}
 use Rattle.session.specs.View.{view}

@@ -1,4 +1,5 @@
 -- It matches the request in flight.
+use Rattle.std.specs.Prelude.{Some}
 use borrow.Author.Tests.{eq-eqb}
 use native.Mathlib.Omega.{arith}
 use Rattle.session.specs.View.{view}

@@ -1,4 +1,5 @@
 -- None of the tests that lead elsewhere is_true.
+use Rattle.std.specs.Prelude.{Some, None}
 use borrow.Author.Tests.{ne_eqb}
 use Rattle.session.specs.View.{view}
 use Rattle.session.proofs.Laws.{is_true, is_false}

@@ -1,4 +1,5 @@
 -- The gap is the first, and is asked for.
+use Rattle.std.specs.Prelude.{Some, None}
 use borrow.Author.Tests.{le-ltb, lt-leb, ne_eqb}
 use native.Mathlib.Omega.{arith}
 use Prim.Native.Nat.{◌-◌}

@@ -1,4 +1,5 @@
 -- The number is the expected one, and nothing else is to be done.
+use Rattle.std.specs.Prelude.{Some, None}
 use borrow.Author.Tests.{ne_eqb}
 use native.Mathlib.Omega.{arith}
 use Rattle.session.specs.View.{view}

@@ -1,4 +1,5 @@
 -- Nothing refuses it, and the receiver can number it by itself.
+use Rattle.std.specs.Prelude.{None}
 use borrow.Author.Tests.{lt-leb, not-false}
 use native.Mathlib.Omega.{arith}
 use Prim.Native.Nat.{◌-◌}

@@ -1,4 +1,5 @@
 -- A release is refused exactly where the record is bad.
+use Rattle.std.specs.Prelude.{Ok}
 use mathlib.Core.Bool.{true, false}
 use mathlib.Core.Path.{ap}
 use Rattle.calls.specs.View.{is_refused}

@@ -1,6 +1,7 @@
 -- Of a good record the session's own answer.
+use Rattle.std.specs.Prelude.{Option}
 use mathlib.Core.Path.{ap}
-use Rattle.rules.specs.Names.{MaybeSeq}
+use Rattle.rules.specs.Names.{SeqNum}
 use Rattle.session.proofs.Laws.{is_false, is_true}
 use Rattle.reading.specs.declared.SeqAnswer.TheVariants as seqs
 use Rattle.reading.proofs.announced_next_seq.Goals as goal
@@ -9,4 +10,4 @@ pub returns-then-not-is_good : goal.returns-then-not-is_good
 returns-then-not-is_good c = rw (is_false c.is_good.ensures c.if-not-is_good.true)
 
 pub returns : goal.returns
-returns c = rw (is_true c.is_good.ensures c.if-not-is_good.false) (ap (λ (x : MaybeSeq). seqs.Is x) c.announced_next_seq.ensures)
+returns c = rw (is_true c.is_good.ensures c.if-not-is_good.false) (ap (λ (x : Option SeqNum). seqs.Is x) c.announced_next_seq.ensures)

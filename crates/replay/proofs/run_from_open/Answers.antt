@@ -1,10 +1,10 @@
 -- The first record is an open, or the run stops there; its line comes first, and then what stands behind it.
+use Rattle.std.specs.Prelude.{None}
 use Prim.Native.Nat.{ℕ, ◌-◌}
 use mathlib.Core.Path.{ap, sym, ◌∙◌}
 use mathlib.Core.List.{List, ◌++◌}
 use native.Mathlib.Omega.{arith}
 use lib.ListN.{length, take}
-use Rattle.rules.specs.Names.seq
 use Rattle.rules.specs.Names.status
 use Rattle.session.proofs.Laws.{is_true, is_false}
 use Rattle.trace.specs.Format.{decode}
@@ -31,7 +31,7 @@ returns-then-is_refused c =
     record {
       is =
           prints-then c.args.out.now c.record_line-next.new.out c.run_refused.new.out _ _ _ c.args.first c.record_line-next.result c.run_refused.result c.record_line-next.ensures.is c.run_refused.ensures.is
-          (ap (λ (x : List ℕ). line_text 0 c.open-opened.result.answer status.Unbound seq.None 0 0 ++ x) (sym (lines-without c.args.s.now (length c.view-r.result.now) (omega (arith, long))))
+          (ap (λ (x : List ℕ). line_text 0 c.open-opened.result.answer status.Unbound None 0 0 ++ x) (sym (lines-without c.args.s.now (length c.view-r.result.now) (omega (arith, long))))
           ∙ open-refused c.read_record-record.result.entry c.in-Open.is c.open-opened.result rest c.open-opened.ensures (is_true c.is_refused.ensures c.if-is_refused.true)
           ∙ first-lines c.args.s.now c.read_record-record.result (length c.view-r.result.now) c.requires.s_nonzero.0 (c.read_record-record.ensures ∙ ap decode c.view-r.ensures.part.bytes) c.view-r.ensures.size);
       inside = omega (arith, c.run_refused.ensures.room, c.run_refused.auto.out, c.record_line-next.ensures.room, c.record_line-next.auto.out, c.requires);

@@ -1,4 +1,5 @@
 -- By the sort of answer.
+use Rattle.std.specs.Prelude.{Ok}
 use mathlib.Core.Path.{ap, sym}
 use Rattle.library.proofs.Laws.{number-of}
 use Rattle.library.specs.Answers.{numbered_reply}

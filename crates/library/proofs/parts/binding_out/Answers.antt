@@ -1,4 +1,5 @@
 -- By whether there is one, then by its state.
+use Rattle.std.specs.Prelude.{Some}
 use borrow.Author.Rules.{rules}
 use Rattle.library.proofs.parts.binding_out.Goals as goal
 

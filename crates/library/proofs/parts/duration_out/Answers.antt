@@ -1,4 +1,5 @@
 -- By whether there is a number.
+use Rattle.std.specs.Prelude.{Some}
 use borrow.Author.Rules.{rules}
 use Rattle.library.proofs.parts.duration_out.Goals as goal
 

@@ -1,4 +1,5 @@
 -- By whether it is there.
+use Rattle.std.specs.Prelude.{Some, None}
 use borrow.Author.Rules.{rules}
 use Rattle.library.proofs.parts.finished_out.Goals as goal
 

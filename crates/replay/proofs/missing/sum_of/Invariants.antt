@@ -3,18 +3,18 @@ use Prim.Native.Nat.{ℕ, ◌+◌, ◌≤◌}
 use mathlib.Core.Path.{◌≡◌}
 use lib.ListN.{length}
 use Rattle.types.specs.Base.{all_ones}
-use Rattle.rings.specs.View.{GapRingWf, gap_list}
-use Rattle.rings.specs.declared.gap_ring.GapRing.{GapRing}
+use Rattle.rings.specs.View.{RingWf, list_of}
+use Rattle.rings.specs.declared.ring.Ring.{Ring}
 use Rattle.replay.specs.Missing.{gap_lengths, at_most}
 use Rattle.replay.proofs.missing.sum_of.Given as goal
 
-pub record Left (ring left : GapRing) (sum : ℕ) : Type 0 where
-  pub order : GapRingWf left
+pub record Left (ring left : Ring max_gaps) (sum : ℕ) : Type 0 where
+  pub order : RingWf left
   pub fits : sum ≤ all_ones
-  pub same : at_most (sum + gap_lengths (gap_list left)) ≡ at_most (gap_lengths (gap_list ring))
+  pub same : at_most (sum + gap_lengths (list_of left)) ≡ at_most (gap_lengths (list_of ring))
 
 abbrev pub invariant-loop-gap : goal.invariant-loop-gap
 invariant-loop-gap l = Left l.initial.left l.left l.sum
 
 abbrev pub decreases-loop-gap : goal.decreases-loop-gap
-decreases-loop-gap l = length (gap_list l.left)
+decreases-loop-gap l = length (list_of l.left)

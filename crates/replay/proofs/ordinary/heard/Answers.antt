@@ -1,4 +1,5 @@
 -- Only the time of the last message from the peer is another.
+use Rattle.std.specs.Prelude.{Some}
 use Rattle.types.specs.States.{with_received}
 use Rattle.replay.proofs.Links.{then-none, then-bound}
 use Rattle.replay.proofs.ordinary.heard.Goals as goal

@@ -1,4 +1,5 @@
 -- By the kind of the record, where it is bound and good.
+use Rattle.std.specs.Prelude.{Some}
 use Rattle.session.proofs.Laws.{is_true}
 use Rattle.replay.proofs.Found.{found-live, found-same, found-sent}
 use Rattle.replay.proofs.ordinary.quick_of.Goals as goal

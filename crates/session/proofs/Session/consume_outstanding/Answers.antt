@@ -1,12 +1,13 @@
 -- A request that is there takes its whole count out of the first gap.
+use Rattle.std.specs.Prelude.{Option, Some}
 use mathlib.Core.Path.{refl, ap}
-use Rattle.rules.specs.Names.{MaybeOutstanding}
+use Rattle.rules.specs.Names.{Outstanding}
 use Rattle.rules.specs.Asking.{completed_at}
 use Rattle.session.specs.View.{view}
 use Rattle.session.proofs.Session.consume_outstanding.Goals as goal
 
 pub returns-in_default : goal.returns-in_default
-returns-in_default c = rw (ap (λ (o : MaybeOutstanding). completed_at o (view c.args.self)) c.in_default.is) (record { wf = c.requires; is = refl })
+returns-in_default c = rw (ap (λ (o : Option Outstanding). completed_at o (view c.args.self)) c.in_default.is) (record { wf = c.requires; is = refl })
 
 pub returns : goal.returns
-returns c = rw (ap (λ (o : MaybeOutstanding). completed_at o (view c.args.self)) c.in-Some.is, ← c.wide.ensures) c.consume_missing.ensures
+returns c = rw (ap (λ (o : Option Outstanding). completed_at o (view c.args.self)) c.in-Some.is, ← c.wide.ensures) c.consume_missing.ensures

@@ -1,7 +1,8 @@
 -- Closing ignores it; else a batch in progress has it, or it is live.
+use Rattle.std.specs.Prelude.{Option, Some}
 use mathlib.Core.Path.{ap}
 use Rattle.types.specs.States.{with_received}
-use Rattle.rules.specs.Names.{MaybeReplay}
+use Rattle.rules.specs.Names.{Replay}
 use Rattle.rules.specs.State.{saying}
 use Rattle.rules.specs.Numbering.{arrived_in, on_application}
 use Rattle.session.specs.View.{view}
@@ -14,8 +15,8 @@ returns-then-is_closing c = rw (is_true c.is_closing.ensures c.if-is_closing.tru
 
 pub returns-in_default : goal.returns-in_default
 unfolding on_application
-returns-in_default c = rw (is_false c.is_closing.ensures c.if-is_closing.false, ap (λ (p : MaybeReplay). arrived_in p c.args.now c.args.stamp (view c.args.self) (with_received c.args.now c.args.binding)) c.in_default.is) c.on_live.ensures
+returns-in_default c = rw (is_false c.is_closing.ensures c.if-is_closing.false, ap (λ (p : Option Replay). arrived_in p c.args.now c.args.stamp (view c.args.self) (with_received c.args.now c.args.binding)) c.in_default.is) c.on_live.ensures
 
 pub returns : goal.returns
 unfolding on_application
-returns c = rw (is_false c.is_closing.ensures c.if-is_closing.false, ap (λ (p : MaybeReplay). arrived_in p c.args.now c.args.stamp (view c.args.self) (with_received c.args.now c.args.binding)) c.in-Some.is) c.on_replayed.ensures
+returns c = rw (is_false c.is_closing.ensures c.if-is_closing.false, ap (λ (p : Option Replay). arrived_in p c.args.now c.args.stamp (view c.args.self) (with_received c.args.now c.args.binding)) c.in-Some.is) c.on_replayed.ensures

@@ -1,9 +1,10 @@
 -- The number is announced, then recovery is resumed; an unsequenced peer has none.
+use Rattle.std.specs.Prelude.{Option, Some}
 use native.Mathlib.Omega.{arith}
 use mathlib.Core.Path.{◌≡◌, ap, sym, ◌∙◌}
 use mathlib.Core.Bool.{true}
 use Rattle.types.specs.States.{is_stay}
-use Rattle.rules.specs.Names.{MaybeSeq}
+use Rattle.rules.specs.Names.{SeqNum}
 use Rattle.rules.specs.Numbering.{on_next_seq}
 use Rattle.rules.specs.Binding.{established_at, on_established}
 use Rattle.session.specs.View.{view, After}
@@ -17,11 +18,11 @@ returns-then-not-is_sequenced c = rw (is_false c.is_sequenced.ensures c.if-not-i
 
 pub returns-in_default : goal.returns-in_default
 unfolding on_established
-returns-in_default c = rw (is_true c.is_sequenced.ensures c.if-not-is_sequenced.false, ap (λ (n : MaybeSeq). established_at n c.args.now c.args.stamp (view c.args.self) c.args.binding) c.in_default.is) c.resume-in_default.ensures
+returns-in_default c = rw (is_true c.is_sequenced.ensures c.if-not-is_sequenced.false, ap (λ (n : Option SeqNum). established_at n c.args.now c.args.stamp (view c.args.self) c.args.binding) c.in_default.is) c.resume-in_default.ensures
 
 pub returns-then-not-is_stay : goal.returns-then-not-is_stay
 unfolding on_established
-returns-then-not-is_stay c = rw (is_true c.is_sequenced.ensures c.if-not-is_sequenced.false, ap (λ (n : MaybeSeq). established_at n c.args.now c.args.stamp (view c.args.self) c.args.binding) c.in-Some.is) (and-then-end _ _ _ _ c.on_next_seq-step.ensures (is_false c.is_stay.ensures c.if-not-is_stay.true))
+returns-then-not-is_stay c = rw (is_true c.is_sequenced.ensures c.if-not-is_sequenced.false, ap (λ (n : Option SeqNum). established_at n c.args.now c.args.stamp (view c.args.self) c.args.binding) c.in-Some.is) (and-then-end _ _ _ _ c.on_next_seq-step.ensures (is_false c.is_stay.ensures c.if-not-is_stay.true))
 
 pub resume-requires-2-clause-sess_wf : goal.resume-requires-2-clause-sess_wf
 resume-requires-2-clause-sess_wf c =
@@ -40,4 +41,4 @@ resume-requires-2-clause-queue_len_bound c =
 
 pub returns : goal.returns
 unfolding on_established
-returns c = rw (is_true c.is_sequenced.ensures c.if-not-is_sequenced.false, ap (λ (n : MaybeSeq). established_at n c.args.now c.args.stamp (view c.args.self) c.args.binding) c.in-Some.is) (and-then-stay _ _ _ _ _ c.on_next_seq-step.ensures (is_true c.is_stay.ensures c.if-not-is_stay.false) c.resume-2.ensures)
+returns c = rw (is_true c.is_sequenced.ensures c.if-not-is_sequenced.false, ap (λ (n : Option SeqNum). established_at n c.args.now c.args.stamp (view c.args.self) c.args.binding) c.in-Some.is) (and-then-stay _ _ _ _ _ c.on_next_seq-step.ensures (is_true c.is_stay.ensures c.if-not-is_stay.false) c.resume-2.ensures)

@@ -1,7 +1,7 @@
 -- The tests in the order of the rule.
+use Rattle.std.specs.Prelude.{Option, Some}
 use mathlib.Core.Path.{ap}
-use Rattle.rules.specs.Names.{MaybeSeq}
-use Rattle.rules.specs.Names.seq
+use Rattle.rules.specs.Names.{SeqNum}
 use Rattle.rules.specs.Queries.{lower_than}
 use Rattle.session.specs.View.{view}
 use Rattle.session.proofs.Laws.{is_false, is_true}
@@ -14,10 +14,10 @@ pub returns-then-not-is_sequenced : goal.returns-then-not-is_sequenced
 returns-then-not-is_sequenced c = rw (c.if-self.false, is_false c.is_sequenced.ensures c.if-not-is_sequenced.true)
 
 pub returns-in_default : goal.returns-in_default
-returns-in_default c = rw (c.if-self.false, is_true c.is_sequenced.ensures c.if-not-is_sequenced.false, ap (λ (n : MaybeSeq). lower_than n (view c.args.self).inbound_next) c.in_default.is)
+returns-in_default c = rw (c.if-self.false, is_true c.is_sequenced.ensures c.if-not-is_sequenced.false, ap (λ (n : Option SeqNum). lower_than n (view c.args.self).inbound_next) c.in_default.is)
 
 pub returns-in_default-it : goal.returns-in_default-it
-returns-in_default-it c = rw (c.if-self.false, is_true c.is_sequenced.ensures c.if-not-is_sequenced.false, ap (λ (n : MaybeSeq). lower_than n (view c.args.self).inbound_next) c.in-Some.is, ap (λ (n : MaybeSeq). lower_than (seq.Some c.in-Some.number) n) c.in_default-it.is)
+returns-in_default-it c = rw (c.if-self.false, is_true c.is_sequenced.ensures c.if-not-is_sequenced.false, ap (λ (n : Option SeqNum). lower_than n (view c.args.self).inbound_next) c.in-Some.is, ap (λ (n : Option SeqNum). lower_than (Some c.in-Some.number) n) c.in_default-it.is)
 
 pub returns : goal.returns
-returns c = rw (c.if-self.false, is_true c.is_sequenced.ensures c.if-not-is_sequenced.false, ap (λ (n : MaybeSeq). lower_than n (view c.args.self).inbound_next) c.in-Some.is, ap (λ (n : MaybeSeq). lower_than (seq.Some c.in-Some.number) n) c.in-Some-it.is)
+returns c = rw (c.if-self.false, is_true c.is_sequenced.ensures c.if-not-is_sequenced.false, ap (λ (n : Option SeqNum). lower_than n (view c.args.self).inbound_next) c.in-Some.is, ap (λ (n : Option SeqNum). lower_than (Some c.in-Some.number) n) c.in-Some-it.is)

@@ -1,10 +1,11 @@
 -- The refusals in their order; then the header of the batch goes out.
+use Rattle.std.specs.Prelude.{Option, Some}
 use borrow.Author.Tests.{le-leb, lt-leb}
 use native.Mathlib.Omega.{arith}
 use Prim.Native.Nat.{◌≤◌, ◌<◌, ◌+◌}
 use mathlib.Core.Path.{ap}
 use Rattle.types.specs.Base.{all_ones}
-use Rattle.rules.specs.Names.{MaybeProvider}
+use Rattle.rules.specs.Names.{Provider}
 use Rattle.rules.specs.Local.{batch_refused, retransmit_refused, batch_at, retransmit}
 use Rattle.session.specs.View.{view}
 use Rattle.session.proofs.Laws.{is_false, is_true}
@@ -16,21 +17,21 @@ returns-then-not-is_established c = rw (is_false c.is_established.ensures c.if-n
 
 pub returns-in_default : goal.returns-in_default
 unfolding retransmit_refused
-returns-in_default c = rw (is_true c.is_established.ensures c.if-not-is_established.false, ap (λ (v : MaybeProvider). batch_refused v c.args.count) c.in_default.is) c.refuse.ensures
+returns-in_default c = rw (is_true c.is_established.ensures c.if-not-is_established.false, ap (λ (v : Option Provider). batch_refused v c.args.count) c.in_default.is) c.refuse.ensures
 
 pub returns-then-provider : goal.returns-then-provider
 unfolding retransmit_refused
-returns-then-provider c = rw (is_true c.is_established.ensures c.if-not-is_established.false, ap (λ (v : MaybeProvider). batch_refused v c.args.count) c.in-Some.is, lt-leb _ _ c.if-provider.true) c.refuse-then-provider.ensures
+returns-then-provider c = rw (is_true c.is_established.ensures c.if-not-is_established.false, ap (λ (v : Option Provider). batch_refused v c.args.count) c.in-Some.is, lt-leb _ _ c.if-provider.true) c.refuse-then-provider.ensures
 
 pub returns-then-remaining-count : goal.returns-then-remaining-count
 unfolding retransmit_refused
-returns-then-remaining-count c = rw (is_true c.is_established.ensures c.if-not-is_established.false, ap (λ (v : MaybeProvider). batch_refused v c.args.count) c.in-Some.is, le-leb _ _ c.if-provider.false, lt-leb _ _ c.if-remaining-count.true) c.refuse-then-remaining-count.ensures
+returns-then-remaining-count c = rw (is_true c.is_established.ensures c.if-not-is_established.false, ap (λ (v : Option Provider). batch_refused v c.args.count) c.in-Some.is, le-leb _ _ c.if-provider.false, lt-leb _ _ c.if-remaining-count.true) c.refuse-then-remaining-count.ensures
 
 pub returns-then-wide-provider : goal.returns-then-wide-provider
 unfolding retransmit_refused
 returns-then-wide-provider c =
     let k : all_ones < c.in-Some.provider.from.0 + c.in-Some.provider.sent = omega (arith, c.if-wide-provider.true, c.wide.ensures) in
-    rw (is_true c.is_established.ensures c.if-not-is_established.false, ap (λ (v : MaybeProvider). batch_refused v c.args.count) c.in-Some.is, le-leb _ _ c.if-provider.false, le-leb _ _ c.if-remaining-count.false, lt-leb _ _ k) c.refuse-then-wide-provider.ensures
+    rw (is_true c.is_established.ensures c.if-not-is_established.false, ap (λ (v : Option Provider). batch_refused v c.args.count) c.in-Some.is, le-leb _ _ c.if-provider.false, le-leb _ _ c.if-remaining-count.false, lt-leb _ _ k) c.refuse-then-wide-provider.ensures
 
 pub batch-requires-clause-sess_wf : goal.batch-requires-clause-sess_wf
 batch-requires-clause-sess_wf c = c.requires.sess_wf
@@ -51,4 +52,4 @@ pub returns : goal.returns
 unfolding retransmit_refused retransmit
 returns c =
     let k : c.in-Some.provider.from.0 + c.in-Some.provider.sent ≤ all_ones = omega (arith, c.if-wide-provider.false, c.wide.ensures) in
-    rw (is_true c.is_established.ensures c.if-not-is_established.false, ap (λ (v : MaybeProvider). batch_refused v c.args.count) c.in-Some.is, le-leb _ _ c.if-provider.false, le-leb _ _ c.if-remaining-count.false, le-leb _ _ k, ap (λ (v : MaybeProvider). batch_at v c.args.now c.args.count (view c.args.self) c.args.binding) c.in-Some.is) c.batch.ensures
+    rw (is_true c.is_established.ensures c.if-not-is_established.false, ap (λ (v : Option Provider). batch_refused v c.args.count) c.in-Some.is, le-leb _ _ c.if-provider.false, le-leb _ _ c.if-remaining-count.false, le-leb _ _ k, ap (λ (v : Option Provider). batch_at v c.args.now c.args.count (view c.args.self) c.args.binding) c.in-Some.is) c.batch.ensures

@@ -1,11 +1,12 @@
 -- Nothing is queued.
+use Rattle.std.specs.Prelude.{Ok}
 use mathlib.Core.Path.{sym}
 use Rattle.rules.specs.Names.bound
-use Rattle.rules.specs.Names.answer
+use Rattle.rules.specs.Names.verdict
 use Rattle.queue.specs.View.{queue_of}
 use Rattle.queue.proofs.Laws.{queued-none}
 use Rattle.session.specs.View.{view}
 use Rattle.session.proofs.Session.unbind.Goals as goal
 
 pub returns : goal.returns
-returns c = record { session = c.requires.sess_wf; queue = c.requires.outs_wf; is = λ i. record { session = view c.args.self; binding = c.args.binding; queue = sym (queued-none (queue_of c.args.queue)) i; bound = bound.Unbind; answer = answer.Ok } }
+returns c = record { session = c.requires.sess_wf; queue = c.requires.outs_wf; is = λ i. record { session = view c.args.self; binding = c.args.binding; queue = sym (queued-none (queue_of c.args.queue)) i; bound = bound.Unbind; answer = Ok verdict.Done } }

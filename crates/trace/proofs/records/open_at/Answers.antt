@@ -1,4 +1,5 @@
 -- `trace::records::open_at` meets its contract: each code is in its list, or the record is malformed. Assumes nothing.
+use Rattle.std.specs.Prelude.{Some}
 use Rattle.trace.specs.Format.{open_of}
 use Rattle.trace.proofs.records.open_at.Goals as goal
 

@@ -1,4 +1,5 @@
 -- `trace::records::peer_reject_at` meets its contract: the code is in its list or the record is malformed. Assumes nothing.
+use Rattle.std.specs.Prelude.{Some}
 use Rattle.trace.specs.Format.{peer_reject_of}
 use Rattle.trace.proofs.records.peer_reject_at.Goals as goal
 

@@ -1,4 +1,5 @@
 -- `trace::records::terminate_at` meets its contract: the code is in its list or the record is malformed. Assumes nothing.
+use Rattle.std.specs.Prelude.{Some}
 use Rattle.trace.specs.Format.{terminate_of}
 use Rattle.trace.proofs.records.terminate_at.Goals as goal
 

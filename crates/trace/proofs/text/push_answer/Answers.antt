@@ -1,4 +1,5 @@
 -- `trace::text::push_answer` meets its contract: each case is a word, with its numbers after colons. Assumes nothing.
+use Rattle.std.specs.Prelude.{Ok}
 use native.Mathlib.Omega.{arith}
 use Rattle.trace.specs.Ascii.{ascii}
 use Rattle.trace.proofs.Lines.{adds_then, adds-less, adds-as, colons-two}

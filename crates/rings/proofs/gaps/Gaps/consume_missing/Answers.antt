@@ -2,7 +2,7 @@
 use borrow.Author.Rules.{rules}
 use native.Mathlib.Omega.{arith}
 use mathlib.Core.Path.{sym, ◌∙◌}
-use Rattle.rings.specs.View.{lists_of, gap_list}
+use Rattle.rings.specs.View.{lists_of, list_of}
 use Rattle.rings.proofs.GapLaws.{front_long}
 use Rattle.rings.proofs.Cases.{consume-zero, consume-none, consume-whole, consume-part}
 use Rattle.rings.proofs.gaps.Gaps.consume_missing.Goals as goal
@@ -23,10 +23,10 @@ returns-then-first-count-2 c =
     rw (consume-whole c.args.count (lists_of c.args.self) c.in-Some.first c.if-count-eq0.false (sym c.front.ensures ∙ c.in-Some.is) (omega (arith, c.if-first-count-2.true)))
     c.drop_first-then-first-count-2.ensures
 
-pub set_front-self-requires-clause-nonzero : goal.set_front-self-requires-clause-nonzero
-set_front-self-requires-clause-nonzero c = front_long (gap_list c.args.self.missing) c.in-Some.first (sym c.front.ensures ∙ c.in-Some.is)
+pub set_front-requires : goal.set_front-requires
+set_front-requires c = (omega arith, (search rules, front_long (list_of c.args.self.missing) c.in-Some.first (sym c.front.ensures ∙ c.in-Some.is)))
 
 pub returns : goal.returns
 returns c =
     rw (consume-part c.args.count (lists_of c.args.self) c.in-Some.first c.if-count-eq0.false (sym c.front.ensures ∙ c.in-Some.is) (omega (arith, c.if-first-count.false, c.if-first-count-2.false)))
-    (record { wf = search rules; is = rw c.set_front-self.ensures.is })
+    (record { wf = search rules; is = rw c.set_front.ensures.is })

@@ -3,7 +3,7 @@ use borrow.Author.Rules.{rules}
 use native.Mathlib.Omega.{arith}
 use mathlib.Core.Path.{◌≡◌, ◌∙◌}
 use lib.ListN.{length}
-use Rattle.rings.specs.View.{gap_list, run_list}
+use Rattle.rings.specs.View.{list_of}
 use Rattle.rules.specs.Gaps.{drop_first}
 use Rattle.rings.proofs.Laws.{nil-of}
 use Rattle.rings.proofs.GapLaws.{runs-with}
@@ -12,13 +12,13 @@ use Rattle.rings.proofs.gaps.Gaps.drop_first.Goals as goal
 pub returns-then-len-eq0 : goal.returns-then-len-eq0
 unfolding drop_first
 returns-then-len-eq0 c =
-    let left = gap_list c.pop_front-self.result in
+    let left = list_of c.pop_front.new.self in
     let none : length left ≡ 0 = omega arith in
-    record { wf = search rules; is = rw (← c.pop_front-self.ensures.is, nil-of left none, c.new-self.ensures.is) }
+    record { wf = search rules; is = rw (← c.pop_front.ensures.is, nil-of left none, c.new-self.ensures.is) }
 
 pub returns : goal.returns
 unfolding drop_first
 returns c =
-    let left = gap_list c.pop_front-self.result in
-    let runs = run_list c.args.self.overflow_received in
-    record { wf = search rules; is = rw (← c.pop_front-self.ensures.is, runs-with left runs (λ e. c.if-len-eq0.false (c.len.ensures ∙ e))) }
+    let left = list_of c.pop_front.new.self in
+    let runs = list_of c.args.self.overflow_received in
+    record { wf = search rules; is = rw (← c.pop_front.ensures.is, runs-with left runs (λ e. c.if-len-eq0.false (c.len.ensures ∙ e))) }

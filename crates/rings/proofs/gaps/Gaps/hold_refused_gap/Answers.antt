@@ -3,7 +3,7 @@
 use borrow.Author.Rules.{rules}
 use native.Mathlib.Omega.{arith}
 use mathlib.Core.Path.{sym, ◌∙◌}
-use Rattle.rings.specs.View.{lists_of, gap_list}
+use Rattle.rings.specs.View.{lists_of, list_of}
 use Rattle.rings.proofs.GapLaws.{back_none, back_long}
 use Rattle.rings.proofs.Cases.{hold-first, hold-touching, hold-full, hold-run}
 use Rattle.rings.proofs.gaps.Gaps.hold_refused_gap.Goals as goal
@@ -13,16 +13,16 @@ returns-then-len-max c = rw (hold-first c.args.max c.args.from c.args.end (lists
 
 pub push_gap-longer-requires-in_default-clause-self_len_bound : goal.push_gap-longer-requires-in_default-clause-self_len_bound
 push_gap-longer-requires-in_default-clause-self_len_bound c =
-    let none = back_none (gap_list c.args.self.missing) (sym c.back.ensures ∙ c.in_default.is) in
+    let none = back_none (list_of c.args.self.missing) (sym c.back.ensures ∙ c.in_default.is) in
     omega arith
 
 pub returns-in_default : goal.returns-in_default
 returns-in_default c =
-    let none = back_none (gap_list c.args.self.missing) (sym c.back.ensures ∙ c.in_default.is) in
+    let none = back_none (list_of c.args.self.missing) (sym c.back.ensures ∙ c.in_default.is) in
     rw (hold-first c.args.max c.args.from c.args.end (lists_of c.args.self) (omega arith)) (record { wf = search rules; is = rw c.push_gap-longer-in_default.ensures.is })
 
 pub widen_last-wider-requires-clause-missing_nonzero : goal.widen_last-wider-requires-clause-missing_nonzero
-widen_last-wider-requires-clause-missing_nonzero c = back_long (gap_list c.args.self.missing) c.in-Some.last (sym c.back.ensures ∙ c.in-Some.is)
+widen_last-wider-requires-clause-missing_nonzero c = back_long (list_of c.args.self.missing) c.in-Some.last (sym c.back.ensures ∙ c.in-Some.is)
 
 pub returns-then-last-from : goal.returns-then-last-from
 returns-then-last-from c =
@@ -35,9 +35,9 @@ returns-then-len-ge-MAX_RUNS c =
     (search rules)
 
 pub widen_last-wider-requires-2-clause-missing_nonzero : goal.widen_last-wider-requires-2-clause-missing_nonzero
-widen_last-wider-requires-2-clause-missing_nonzero c = back_long (gap_list c.args.self.missing) c.in-Some.last (sym c.back.ensures ∙ c.in-Some.is)
+widen_last-wider-requires-2-clause-missing_nonzero c = back_long (list_of c.args.self.missing) c.in-Some.last (sym c.back.ensures ∙ c.in-Some.is)
 
 pub returns : goal.returns
 returns c =
-    rw (hold-run c.args.max c.args.from c.args.end (lists_of c.args.self) c.in-Some.last (omega (arith, c.len.ensures)) (sym c.back.ensures ∙ c.in-Some.is) c.if-last-from.false (omega (arith, c.len-2.ensures)), ← c.push_back-self.ensures.is)
+    rw (hold-run c.args.max c.args.from c.args.end (lists_of c.args.self) c.in-Some.last (omega (arith, c.len.ensures)) (sym c.back.ensures ∙ c.in-Some.is) c.if-last-from.false (omega (arith, c.len-2.ensures)), ← c.push_back.ensures.is)
     (record { wf = search rules; is = rw c.widen_last-wider-2.ensures.is })

@@ -1,7 +1,7 @@
 -- No gap is missing where the list has length 0.
 use Rattle.rings.proofs.GapLaws.{nil-eqb}
-use Rattle.rings.specs.View.{gap_list}
+use Rattle.rings.specs.View.{list_of}
 use Rattle.rings.proofs.gaps.Gaps.is_empty.Goals as goal
 
 pub returns : goal.returns
-returns c = rw c.len.ensures (nil-eqb (gap_list c.args.self.missing))
+returns c = rw c.len.ensures (nil-eqb (list_of c.args.self.missing))

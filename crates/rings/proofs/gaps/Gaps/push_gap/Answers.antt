@@ -3,4 +3,4 @@ use borrow.Author.Rules.{rules}
 use Rattle.rings.proofs.gaps.Gaps.push_gap.Goals as goal
 
 pub returns : goal.returns
-returns c = record { wf = search rules; is = rw c.push_back-self.ensures.is }
+returns c = record { wf = search rules; is = rw c.push_back.ensures.is }

@@ -5,8 +5,8 @@ use Rattle.rings.proofs.gaps.Gaps.received_in_overflow.Goals as goal
 
 pub returns-in_default : goal.returns-in_default
 unfolding received_in_overflow
-returns-in_default c = record { wf = search rules; is = rw (← c.drop_below-self.ensures.is, ← c.front.ensures, c.in_default.is) }
+returns-in_default c = record { wf = search rules; is = rw (← c.drop_below.ensures.is, ← c.front.ensures, c.in_default.is) }
 
 pub returns : goal.returns
 unfolding received_in_overflow
-returns c = record { wf = search rules; is = rw (← c.drop_below-self.ensures.is, ← c.front.ensures, c.in-Some.is) }
+returns c = record { wf = search rules; is = rw (← c.drop_below.ensures.is, ← c.front.ensures, c.in-Some.is) }

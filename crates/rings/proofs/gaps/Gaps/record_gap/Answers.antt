@@ -1,7 +1,8 @@
 -- A gap that begins where the last one ends makes it longer; any other, and the first, is appended.
 use borrow.Author.Rules.{rules}
+use native.Mathlib.Omega.{arith}
 use mathlib.Core.Path.{sym, ◌∙◌}
-use Rattle.rings.specs.View.{lists_of, gap_list}
+use Rattle.rings.specs.View.{lists_of, list_of}
 use Rattle.rings.proofs.GapLaws.{back_long}
 use Rattle.rings.proofs.Cases.{record-first, record_apart, record-touching}
 use Rattle.rings.proofs.gaps.Gaps.record_gap.Goals as goal
@@ -12,10 +13,10 @@ returns-in_default c = rw (record-first c.args.max c.args.from c.args.end (lists
 pub returns-then-last-from : goal.returns-then-last-from
 returns-then-last-from c = rw (record_apart c.args.max c.args.from c.args.end (lists_of c.args.self) c.in-Some.last (sym c.back.ensures ∙ c.in-Some.is) c.if-last-from.true) c.append_gap-then-last-from.ensures
 
-pub set_back-self-requires-clause-nonzero : goal.set_back-self-requires-clause-nonzero
-set_back-self-requires-clause-nonzero c = back_long (gap_list c.args.self.missing) c.in-Some.last (sym c.back.ensures ∙ c.in-Some.is)
+pub set_back-requires : goal.set_back-requires
+set_back-requires c = (omega arith, (search rules, back_long (list_of c.args.self.missing) c.in-Some.last (sym c.back.ensures ∙ c.in-Some.is)))
 
 pub returns : goal.returns
 returns c =
     rw (record-touching c.args.max c.args.from c.args.end (lists_of c.args.self) c.in-Some.last (sym c.back.ensures ∙ c.in-Some.is) c.if-last-from.false)
-    (record { wf = search rules; is = rw c.set_back-self.ensures.is })
+    (record { wf = search rules; is = rw c.set_back.ensures.is })

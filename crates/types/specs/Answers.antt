@@ -1,0 +1,11 @@
+-- What a call answers: a verdict, or the refusal.
+use Rattle.std.specs.Prelude.{Bool, true, false, Result, Ok, Err}
+use Rattle.types.specs.declared.answers.Verdict.{Verdict}
+use Rattle.types.specs.declared.answers.Refusal.{Refusal}
+
+abbrev pub Answer : Type 0
+Answer = Result Verdict Refusal
+
+abbrev pub is_refused : Answer → Bool
+is_refused (Ok v) = false
+is_refused (Err r) = true
