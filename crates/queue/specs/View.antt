@@ -1,5 +1,5 @@
 -- The queue as the list that it stands for, with its closing flag.
-use Rattle.std.specs.Prelude.{ℕ, ◌+◌, ◌<◌, ◌≤◌, ◌≡◌, Bool, true, false, ◌&&◌, ◌||◌, List, [], ◌∷◌, ltb, leb, eqb}
+use Rattle.std.specs.Prelude.{ℕ, ◌+◌, ◌<◌, ◌≤◌, ◌≡◌, Bool, true, false, ◌&&◌, ◌||◌, List, [], ◌∷◌, ltb, leb, eqb, Option, Some, None}
 use Rattle.rings.specs.Ring.{ring_list}
 use Rattle.rules.specs.Names.{Output, Reason}
 use Rattle.rules.specs.State.{Queue, queued}
@@ -30,14 +30,14 @@ pub record QueueIs (r : Outputs) (m : Queue) : Type 0 where
   pub wf : OutsWf r
   pub is : queue_of r ≡ m
 
--- the output that a poll gives, if there was one
-abbrev pub Given : Bool → Output → List Output → Type 0
-Given given o [] = given ≡ false
-Given given o (x ∷ l) = (given ≡ true) × (o ≡ x)
+-- the first output, if there is one
+abbrev pub first_output : List Output → Option Output
+first_output [] = None
+first_output (x ∷ l) = Some x
 
 pub record PolledIs (r : Polled) (q : Queue) : Type 0 where
   pub queue : QueueIs r.queue (polled q)
-  pub output : Given r.some r.output q.outs
+  pub output : r.output ≡ first_output q.outs
 
 -- refusal 1, of the queue
 abbrev pub sound_outs : Outputs → Bool

@@ -7,6 +7,7 @@ ghost use Rattle.rules.specs.Names.quote as quoting;
 ghost use Rattle.rules.specs.Calls.{room_for_call};
 ghost use Rattle.queue.specs.Added.{lines_of, Pushed};
 
+use types::ids::SeqNum;
 use types::messages::{MessageName, NotApplied, SessionMessage};
 use types::output::{Event, Line, Quote, Said};
 

@@ -2,7 +2,6 @@
 #![tactic(auto)]
 
 ghost use Rattle.std.specs.Prelude.{◌≡◌, ◌||◌, ◌∷◌, [], ◌+◌, ◌<◌, ◌≤◌, length};
-ghost use Rattle.rings.specs.Ring.{Wrapped};
 ghost use Rattle.rules.specs.State.{is_close, queued};
 ghost use Rattle.rules.specs.Outputs.{output, send, send_with, send_quoting, event, event_with, event_quoting, close_transport};
 ghost use Rattle.rules.specs.Names.said;
@@ -12,6 +11,8 @@ ghost use Rattle.types.specs.Reasons.{no_text};
 ghost use Rattle.queue.specs.View.{queue_of, OutsWf, QueueIs, empty_queue, PolledIs, sound_outs, room_of, takes, Filled};
 
 use crate::added::{Added, ROOM_FOR_CALL};
+use rings::place::place;
+use types::ids::SeqNum;
 use types::messages::{MessageName, NotApplied, SessionMessage};
 use types::output::{Event, Output, Said};
 use types::reasons::Reason;
@@ -34,8 +35,7 @@ pub struct Outputs {
 #[derive(Clone, Copy)]
 pub struct Polled {
     pub queue: Outputs,
-    pub output: Output,
-    pub some: bool,
+    pub output: Option<Output>,
 }
 
 /// What a call has to know of the queue before it is made: whether it passes the record check (1), and whether six places are free (7).
@@ -52,44 +52,17 @@ pub struct Put {
     pub done: bool,
 }
 
-/// The place that a sum of two places stands for.
-fn wrap32(p: usize) -> usize
-    requires { p < 64 }
-    ensures { Wrapped 32 p result }
-{
-    if p < MAX_OUTPUTS { p } else { p - MAX_OUTPUTS }
-}
-
 fn is_close(said: Said) -> bool
     ensures { result ≡ is_close said }
 {
-    match said {
-        Said::Send(m) => false,
-        Said::SendApplication { seq, message } => false,
-        Said::CloseTransport => true,
-        Said::Event(e) => false,
-    }
-}
-
-fn either(a: bool, b: bool) -> bool
-    ensures { result ≡ a || b }
-{
-    if a {
-        return true;
-    }
-    b
+    matches!(said, Said::CloseTransport)
 }
 
 impl Outputs {
     pub fn new() -> Outputs
         ensures { QueueIs result empty_queue }
     {
-        let text = Reason::none();
-        let none = Output {
-            said: Said::CloseTransport,
-            reason: 0,
-            text,
-        };
+        let none = Output::new(Said::CloseTransport, 0, Reason::none());
         Outputs {
             slots: [none; MAX_OUTPUTS],
             head: 0,
@@ -120,17 +93,12 @@ impl Outputs {
                 done: false,
             };
         }
-        let mut i = 0;
-        loop {
-            if i == added.count {
-                return Put {
-                    queue: self,
-                    done: true,
-                };
-            }
-            let line = added.lines[i];
+        for line in &added.lines[..added.count] {
             self = self.push(line.output(kept, given));
-            i = i + 1;
+        }
+        Put {
+            queue: self,
+            done: true,
         }
     }
 
@@ -138,16 +106,10 @@ impl Outputs {
     fn takes(self, more: usize) -> bool
         ensures { result ≡ takes self more }
     {
-        if self.head >= MAX_OUTPUTS {
-            return false;
-        }
-        if MAX_OUTPUTS < self.count {
-            return false;
-        }
-        if more > ROOM_FOR_CALL {
-            return false;
-        }
-        self.count + more <= MAX_OUTPUTS
+        self.head < MAX_OUTPUTS
+            && self.count <= MAX_OUTPUTS
+            && more <= ROOM_FOR_CALL
+            && self.count + more <= MAX_OUTPUTS
     }
 
     /// Adds an output at the back. Asking for the transport to be closed sets the flag.
@@ -156,12 +118,9 @@ impl Outputs {
         requires self_len_bound { length (queue_of self).outs < 32 }
         ensures { QueueIs result (queued (queue_of self) (o ∷ [])) }
     {
-        let said = o.said;
-        let closing = either(self.closing, is_close(said));
-        let at = wrap32(self.head + self.count);
-        self.slots[at] = o;
-        self.count = self.count + 1;
-        self.closing = closing;
+        self.slots[place(self.head, self.count, MAX_OUTPUTS)] = o;
+        self.count += 1;
+        self.closing = self.closing || is_close(o.said);
         self
     }
 
@@ -170,12 +129,7 @@ impl Outputs {
         requires self_len_bound { length (queue_of self).outs < 32 }
         ensures { QueueIs result (queued (queue_of self) (send message ∷ [])) }
     {
-        let text = Reason::none();
-        self.push(Output {
-            said: Said::Send(message),
-            reason: 0,
-            text,
-        })
+        self.push(Output::new(Said::Send(message), 0, Reason::none()))
     }
 
     /// With the reason of that number.
@@ -184,12 +138,7 @@ impl Outputs {
         requires self_len_bound { length (queue_of self).outs < 32 }
         ensures { QueueIs result (queued (queue_of self) (send_with message reason ∷ [])) }
     {
-        let text = Reason::none();
-        self.push(Output {
-            said: Said::Send(message),
-            reason,
-            text,
-        })
+        self.push(Output::new(Said::Send(message), reason, Reason::none()))
     }
 
     /// With the bytes of a host's reason.
@@ -198,11 +147,7 @@ impl Outputs {
         requires self_len_bound { length (queue_of self).outs < 32 }
         ensures { QueueIs result (queued (queue_of self) (send_quoting message text ∷ [])) }
     {
-        self.push(Output {
-            said: Said::Send(message),
-            reason: 0,
-            text,
-        })
+        self.push(Output::new(Said::Send(message), 0, text))
     }
 
     pub fn send_application(self, seq: Option<SeqNum>, message: NotApplied) -> Outputs
@@ -210,12 +155,7 @@ impl Outputs {
         requires self_len_bound { length (queue_of self).outs < 32 }
         ensures { QueueIs result (queued (queue_of self) (output (said.SendApplication seq message) 0 no_text ∷ [])) }
     {
-        let text = Reason::none();
-        self.push(Output {
-            said: Said::SendApplication { seq, message },
-            reason: 0,
-            text,
-        })
+        self.push(Output::new(Said::SendApplication { seq, message }, 0, Reason::none()))
     }
 
     pub fn event(self, event: Event) -> Outputs
@@ -223,12 +163,7 @@ impl Outputs {
         requires self_len_bound { length (queue_of self).outs < 32 }
         ensures { QueueIs result (queued (queue_of self) (Rattle.rules.specs.Outputs.event event ∷ [])) }
     {
-        let text = Reason::none();
-        self.push(Output {
-            said: Said::Event(event),
-            reason: 0,
-            text,
-        })
+        self.push(Output::new(Said::Event(event), 0, Reason::none()))
     }
 
     /// With the reason of that number.
@@ -237,12 +172,7 @@ impl Outputs {
         requires self_len_bound { length (queue_of self).outs < 32 }
         ensures { QueueIs result (queued (queue_of self) (event_with event reason ∷ [])) }
     {
-        let text = Reason::none();
-        self.push(Output {
-            said: Said::Event(event),
-            reason,
-            text,
-        })
+        self.push(Output::new(Said::Event(event), reason, Reason::none()))
     }
 
     /// With the bytes of a host's or peer's reason.
@@ -251,11 +181,7 @@ impl Outputs {
         requires self_len_bound { length (queue_of self).outs < 32 }
         ensures { QueueIs result (queued (queue_of self) (event_quoting event text ∷ [])) }
     {
-        self.push(Output {
-            said: Said::Event(event),
-            reason: 0,
-            text,
-        })
+        self.push(Output::new(Said::Event(event), 0, text))
     }
 
     pub fn close_transport(self) -> Outputs
@@ -263,12 +189,7 @@ impl Outputs {
         requires self_len_bound { length (queue_of self).outs < 32 }
         ensures { QueueIs result (queued (queue_of self) (close_transport ∷ [])) }
     {
-        let text = Reason::none();
-        self.push(Output {
-            said: Said::CloseTransport,
-            reason: 0,
-            text,
-        })
+        self.push(Output::new(Said::CloseTransport, 0, Reason::none()))
     }
 
     /// A message that nothing is done with (FIXP, Appendix A 7.1.7.5).
@@ -301,21 +222,18 @@ impl Outputs {
         requires { OutsWf self }
         ensures { PolledIs result (queue_of self) }
     {
-        let at = self.head;
-        let output = self.slots[at];
         if self.count == 0 {
             return Polled {
                 queue: self,
-                output,
-                some: false,
+                output: None,
             };
         }
-        self.head = wrap32(self.head + 1);
-        self.count = self.count - 1;
+        let output = Some(self.slots[self.head]);
+        self.head = place(self.head, 1, MAX_OUTPUTS);
+        self.count -= 1;
         Polled {
             queue: self,
             output,
-            some: true,
         }
     }
 
@@ -339,13 +257,7 @@ impl Outputs {
     pub fn sound(self) -> bool
         ensures { result ≡ sound_outs self }
     {
-        if self.head >= MAX_OUTPUTS {
-            return false;
-        }
-        if self.count > MAX_OUTPUTS {
-            return false;
-        }
-        self.texts_fit()
+        self.head < MAX_OUTPUTS && self.count <= MAX_OUTPUTS && self.texts_fit()
     }
 
     /// The reasons of the outputs queued, one after another.
@@ -353,19 +265,11 @@ impl Outputs {
         requires { OutsWf self }
         ensures { result ≡ Rattle.rules.specs.Calls.texts_fit (queue_of self).outs }
     {
-        let mut at = self.head;
-        let mut left = self.count;
-        loop {
-            if left == 0 {
-                return true;
-            }
-            let output = self.slots[at];
-            let text = output.text;
-            if !text.fits() {
+        for k in 0..self.count {
+            if !self.slots[place(self.head, k, MAX_OUTPUTS)].text.fits() {
                 return false;
             }
-            at = wrap32(at + 1);
-            left = left - 1;
         }
+        true
     }
 }

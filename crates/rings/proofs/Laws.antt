@@ -34,6 +34,14 @@ wrap-step room h n hh hn = go (dec_lt (h + 1) room)
     go (yes a) = rw (wrap-low room (h + 1) a) (ap (wrap room) (omega arith))
     go (no a) = rw (wrap-high room (h + 1) (omega arith)) (wrap-low room _ (omega arith) ∙ omega arith ∙ sym (wrap-high room (h + suc n) (omega arith)))
 
+-- k steps on and then one more are k + 1
+pub wrap-next : (room h k : ℕ) → h < room → k < room → wrap room (wrap room (h + k) + 1) ≡ wrap room (h + (k + 1))
+wrap-next room h k hh hk = go (dec_lt (h + k) room)
+  where
+    go : Dec (h + k < room) → wrap room (wrap room (h + k) + 1) ≡ wrap room (h + (k + 1))
+    go (yes a) = rw (wrap-low room (h + k) a) (ap (wrap room) (omega arith))
+    go (no a) = rw (wrap-high room (h + k) (omega arith)) (wrap-low room _ (omega arith) ∙ omega arith ∙ sym (wrap-high room (h + (k + 1)) (omega arith)))
+
 -- the places of a ring are apart
 pub wrap-apart : (room h i n : ℕ) → h < room → n < room → i < n → wrap room (h + i) ≡ wrap room (h + n) → ⊥
 wrap-apart room h i n hh hn hi = go (dec_lt (h + i) room) (dec_lt (h + n) room)

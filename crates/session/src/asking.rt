@@ -8,7 +8,7 @@ ghost use Rattle.session.specs.View.{view, SessWf, SessIs, StepIs};
 use crate::{Session, Step, wide};
 use queue::Outputs;
 use types::binding::Binding;
-use types::ids::{ALL_ONES, Instant, Nanotime, SeqNum, TerminationCode};
+use types::ids::{ALL_ONES, Instant, Nanotime, TerminationCode};
 use types::messages::{FinishedReceiving, MessageName, Retransmission, RetransmitReject, RetransmitRequest, SessionMessage};
 use types::output::Event;
 use types::parts::{Gap, Outstanding, PeerFinished, Replay};

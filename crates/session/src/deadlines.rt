@@ -7,11 +7,11 @@ ghost use Rattle.session.specs.View.{view, SessWf, StepIs};
 use crate::{Session, Step};
 use queue::Outputs;
 use types::binding::{BindState, Binding};
-use types::config::{RetransmitStallPolicy};
+use types::config::RetransmitStallPolicy;
 use types::ids::{ALL_ONES, Instant, Nanotime, TerminationCode};
 use types::messages::{Sequence, SessionMessage};
 use types::output::{Event, TerminatedBy};
-use types::parts::{Outstanding};
+use types::parts::Outstanding;
 use types::reasons::{KEEPALIVE, Reason, STALLED};
 
 /// The grace beside the peer's keepalive: that of the configuration, else the keepalive again.

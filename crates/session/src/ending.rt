@@ -10,7 +10,6 @@ use types::binding::{BindState, Binding};
 use types::ids::{Instant, TerminationCode};
 use types::messages::{SessionMessage, Terminate};
 use types::output::{Event, TerminatedBy};
-use types::parts::{Outstanding, PeerFinished, Provider, Replay};
 use types::reasons::{Reason, TERMINATE_FOREIGN};
 
 impl Session {

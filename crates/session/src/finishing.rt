@@ -11,7 +11,7 @@ use types::binding::Binding;
 use types::ids::{ALL_ONES, Instant, Nanotime, SeqNum};
 use types::messages::FinishedSending;
 use types::output::Event;
-use types::parts::{PeerFinished};
+use types::parts::PeerFinished;
 use types::reasons::{FINISHED_FOREIGN, FINISHED_NO_LAST, LAST_BELOW, LAST_OUT_OF_RANGE};
 
 impl Session {

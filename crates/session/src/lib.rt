@@ -10,11 +10,10 @@ ghost use Rattle.session.specs.View.{view, SessWf, SessIs, StepIs, with_answer, 
 
 use queue::Outputs;
 use rings::gaps::Gaps;
-use types::answers::Answer;
+use types::answers::{Answer, Verdict};
 use types::binding::{Binding, Bound};
 use types::config::FixpConfig;
 use types::ids::{FlowType, SeqNum, SessionId};
-use types::parts::{Outstanding, PeerFinished, Provider, Replay};
 
 pub mod asking;
 pub mod bind;

@@ -11,12 +11,12 @@ ghost use Rattle.session.specs.View.{view, SessWf, StepIs, refused_step, LocalIs
 
 use crate::{AnswerSlot, Session, Step, wide};
 use queue::Outputs;
-use types::answers::{Answer, Operation, Refusal, RetransmitBatch};
+use types::answers::{Operation, Refusal, RetransmitBatch, Verdict};
 use types::binding::{BindState, Binding, Bound};
 use types::ids::{ALL_ONES, Instant, RetransmitRejectCode, SeqNum, TerminationCode};
 use types::messages::{Retransmission, RetransmitReject, SessionMessage, Terminate};
 use types::output::{Event, TerminatedBy};
-use types::parts::{Provider};
+use types::parts::Provider;
 use types::reasons::{MAX_REASON_LEN, Reason};
 
 impl Session {

@@ -13,12 +13,12 @@ ghost use Rattle.session.specs.View.{view, SessWf, SessIs, StepIs, CountedIs};
 use crate::{Session, Step, wide};
 use queue::Outputs;
 use rings::gaps::Kept;
-use types::answers::{Answer, Delivery};
+use types::answers::{Delivery, Verdict};
 use types::binding::Binding;
 use types::ids::{ALL_ONES, FlowType, Instant, Nanotime, SeqNum, TerminationCode};
 use types::messages::{MessageName, NotApplied, Sequence, SessionMessage};
 use types::output::Event;
-use types::parts::{Outstanding, PeerFinished, Replay};
+use types::parts::Replay;
 use types::reasons::{AFTER_TERMINATE, APPLICATION_AFTER_FINISHED, APPLICATION_BEFORE_RESUME, APPLICATION_BEFORE_SEQUENCE, APPLICATION_ON_NONE, GAP_NOT_APPLIED, GAP_TOO_LONG, INBOUND_EXHAUSTED, NEXT_LOWER, NEXT_PAST_LAST, NEXT_ZERO, OUTBOUND_EXHAUSTED, REPLAY_OVERFLOW, SEQUENCE_UNSEQUENCED, TOO_MANY_GAPS};
 
 /// The session after one more delivered message, and whether its request is now answered in full.

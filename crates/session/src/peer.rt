@@ -7,7 +7,7 @@ ghost use Rattle.session.specs.View.{view, SessWf, StepIs, closing_answer};
 
 use crate::{Session, Step};
 use queue::Outputs;
-use types::answers::{Answer, Delivery};
+use types::answers::{Answer, Delivery, Verdict};
 use types::binding::Binding;
 use types::ids::{ALL_ONES, Instant, Nanotime};
 use types::messages::{Context, PeerMessage};

@@ -10,7 +10,7 @@ use types::binding::Binding;
 use types::ids::{RetransmitRejectCode, TerminationCode};
 use types::messages::{MessageName, RetransmitReject, RetransmitRequest, SessionMessage};
 use types::output::Event;
-use types::parts::{Provider};
+use types::parts::Provider;
 use types::reasons::{REQUEST_EMPTY, REQUEST_FLOW, REQUEST_FOREIGN, REQUEST_IN_PROGRESS, REQUEST_LIMIT, REQUEST_RANGE, REQUEST_TERMINATING};
 
 impl Session {

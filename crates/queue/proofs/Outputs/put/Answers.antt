@@ -6,7 +6,8 @@ use Prim.Native.Nat.{ℕ, ◌+◌, ◌<◌}
 use mathlib.Core.Path.{◌≡◌, refl, sym, ap, ◌∙◌}
 use mathlib.Core.Bool.{true, false≢true}
 use mathlib.Core.List.{[], ◌∷◌, ◌++◌}
-use lib.ListN.{length, length-append, get_or}
+use lib.ListN.{length, length-append, get_or, take}
+use Rattle.std.proofs.lemmas.List.{length-take-le, get_or-take}
 use Rattle.types.specs.Outputs.{output_of}
 use Rattle.rules.specs.Names.{Output}
 use Rattle.rules.specs.State.{Queue, queued}
@@ -31,39 +32,37 @@ returns-then-added-eq0 c =
       taken = λ t. record { wf = (taken-room q a.count t).wf; is = sym (queued-none (queue_of q)) ∙ ap (queued (queue_of q)) (sym (said-none _ _ a e)) };
     }
 
-pub loop-i-init : goal.loop-i-init
+pub loop-line-init : goal.loop-line-init
 unfolding ring_list
-loop-i-init c =
+loop-line-init c =
     let q = c.args.self in
     let r = taken-room q c.args.added.count (sym c.takes.ensures ∙ c.if-not-takes.false) in
     record { room = r; turn = omega arith; count = omega arith; wf = r.wf; is = sym (queued-none (queue_of q)) }
 
-pub returns-then-i-added : goal.returns-then-i-added
-unfolding said_in lines_of
-returns-then-i-added c =
-    let a = c.args.added in
-    let t : takes c.args.self a.count ≡ true = sym c.takes.ensures ∙ c.if-not-takes.false in
-    record {
-      answer = rw (ne_eqb _ _ c.if-added-eq0.false, t);
-      nothing = λ z. absurd (c.if-added-eq0.false z);
-      refused = λ u. absurd (false≢true (sym u ∙ t));
-      taken = λ _. record { wf = c.loop-i.invariant.wf; is = c.loop-i.invariant.is ∙ ap (λ (n : ℕ). queued (queue_of c.args.self) (first_of c.args.kept c.args.given a n)) c.if-i-added.true };
-    }
+pub push-self-requires-clause-outs_wf : goal.push-self-requires-clause-outs_wf
+push-self-requires-clause-outs_wf c = c.loop-line.invariant.wf
 
 pub push-self-requires-clause-self_len_bound : goal.push-self-requires-clause-self_len_bound
-push-self-requires-clause-self_len_bound c = rw (outs-length c.loop-i.self) (omega (arith, c.loop-i.invariant.count, c.loop-i.invariant.turn, c.loop-i.invariant.room.fits, c.if-i-added.false))
+push-self-requires-clause-self_len_bound c =
+    let l = c.loop-line.invariant in
+    let len : length c.args.added.lines ≡ room_for_call = search (rules, long_of) in
+    let few : length (take c.args.added.count c.args.added.lines) ≡ c.args.added.count = length-take-le c.args.added.count c.args.added.lines (rw len l.room.few) in
+    rw (outs-length c.loop-line.self) (omega (arith, l.count, l.room.fits, few, c.loop-line-test.true))
 
-pub loop-i-preserved : goal.loop-i-preserved
+pub loop-line-preserved : goal.loop-line-preserved
 unfolding queued
-loop-i-preserved c =
+loop-line-preserved c =
     let x = c.args in
     let a = c.args.added in
-    let l = c.loop-i in
-    let lt : l.i < a.count = omega (arith, l.invariant.turn, c.if-i-added.false) in
-    let few : l.i < room_for_call = omega (arith, lt, l.invariant.room.few) in
+    let l = c.loop-line in
+    let at = l.line-index in
     let len : length a.lines ≡ room_for_call = search (rules, long_of) in
-    let in_lines : l.i < length a.lines = rw len few in
-    let out : c.output.result ≡ output_of x.kept x.given (get_or a.lines l.i no_line) = c.output.ensures ∙ ap (output_of x.kept x.given) (get_d_any a.lines l.i _ no_line in_lines) in
+    let many : length (take a.count a.lines) ≡ a.count = length-take-le a.count a.lines (rw len l.invariant.room.few) in
+    let lt : at < a.count = omega (arith, many, c.loop-line-test.true) in
+    let few : at < room_for_call = omega (arith, lt, l.invariant.room.few) in
+    let in_lines : at < length a.lines = rw len few in
+    let out : c.output.result ≡ output_of x.kept x.given (get_or a.lines at no_line) =
+    c.output.ensures ∙ ap (output_of x.kept x.given) (get_or-take a.count a.lines at _ lt ∙ get_d_any a.lines at _ no_line in_lines) in
     let more : queue_of c.push-self.result ≡ queued (queue_of l.self) (c.output.result ∷ []) = c.push-self.ensures.is in
     let longer : length (outs_of c.push-self.result) ≡ length (outs_of l.self) + 1 = ap (λ (q : Queue). length q.outs) more ∙ length-append (outs_of l.self) (c.output.result ∷ []) in
     record {
@@ -74,6 +73,22 @@ loop-i-preserved c =
       is =
           more
           ∙ ap (λ (q : Queue). queued q (c.output.result ∷ [])) l.invariant.is
-          ∙ queued-append (queue_of x.self) (first_of x.kept x.given a l.i) (c.output.result ∷ [])
-          ∙ ap (queued (queue_of x.self)) (ap (λ (o : Output). first_of x.kept x.given a l.i ++ (o ∷ [])) out ∙ sym (first_more x.kept x.given a l.i few));
+          ∙ queued-append (queue_of x.self) (first_of x.kept x.given a at) (c.output.result ∷ [])
+          ∙ ap (queued (queue_of x.self)) (ap (λ (o : Output). first_of x.kept x.given a at ++ (o ∷ [])) out ∙ sym (first_more x.kept x.given a at few));
+    }
+
+pub returns : goal.returns
+unfolding said_in lines_of
+returns c =
+    let a = c.args.added in
+    let l = c.loop-line.invariant in
+    let t : takes c.args.self a.count ≡ true = sym c.takes.ensures ∙ c.if-not-takes.false in
+    let len : length a.lines ≡ room_for_call = search (rules, long_of) in
+    let many : length (take a.count a.lines) ≡ a.count = length-take-le a.count a.lines (rw len l.room.few) in
+    let all : c.loop-line.line-index ≡ a.count = omega (arith, many, l.turn, c.loop-line-test.false) in
+    record {
+      answer = rw (ne_eqb _ _ c.if-added-eq0.false, t);
+      nothing = λ z. absurd (c.if-added-eq0.false z);
+      refused = λ u. absurd (false≢true (sym u ∙ t));
+      taken = λ _. record { wf = l.wf; is = l.is ∙ ap (λ (n : ℕ). queued (queue_of c.args.self) (first_of c.args.kept c.args.given a n)) all };
     }

@@ -1,5 +1,5 @@
 -- Each turn puts one more line behind what is there.
-use Prim.Native.Nat.{ℕ, ◌+◌, ◌-◌, ◌≤◌}
+use Prim.Native.Nat.{ℕ, ◌+◌, ◌≤◌}
 use mathlib.Core.Path.{◌≡◌}
 use mathlib.Core.List.{List, map}
 use Rattle.types.specs.Outputs.{output_of}
@@ -26,8 +26,5 @@ pub record Filling (q₀ : Outputs) (a : Added) (kept given : Reason) (q : Outpu
   pub wf : OutsWf q
   pub is : queue_of q ≡ queued (queue_of q₀) (first_of kept given a i)
 
-abbrev pub invariant-loop-i : goal.invariant-loop-i
-invariant-loop-i l = Filling l.fn.self l.added l.kept l.given l.self l.i
-
-abbrev pub decreases-loop-i : goal.decreases-loop-i
-decreases-loop-i l = l.added.count - l.i
+abbrev pub invariant-loop-line : goal.invariant-loop-line
+invariant-loop-line l = Filling l.fn.self l.fn.added l.fn.kept l.fn.given l.self l.line-index

@@ -1,5 +1,0 @@
--- A plain output has no bytes beside it.
-use Rattle.queue.proofs.Outputs.send_with.Goals as goal
-
-pub returns : goal.returns
-returns c = rw (← c.none-text.ensures) c.push.ensures
