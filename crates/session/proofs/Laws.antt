@@ -2,7 +2,7 @@
 use Rattle.std.specs.Prelude.{if◌then◌else◌, None}
 use Prim.Native.Nat.{ℕ, ◌+◌, ◌-◌, ◌<◌, ◌≤◌}
 use mathlib.Core.Path.{◌≡◌, refl, ap, sym, ◌∙◌}
-use mathlib.Core.Bool.{Bool, true, false}
+use mathlib.Core.Bool.{Bool, true, false, not}
 use mathlib.Core.List.{List, [], ◌∷◌, ◌++◌}
 use lib.ListN.{length, length-append}
 use borrow.Author.Tests.{eq-eqb, ne_eqb, eqb-true, eqb-false}
@@ -32,6 +32,14 @@ is_true e t = sym e ∙ t
 
 pub is_false : {t u : Bool} → t ≡ u → t ≡ false → u ≡ false
 is_false e t = sym e ∙ t
+
+pub differs : {t u : Bool} → t ≡ not u → t ≡ true → u ≡ false
+differs {u = true} e t = sym t ∙ e
+differs {u = false} e t = refl
+
+pub agrees : {t u : Bool} → t ≡ not u → t ≡ false → u ≡ true
+agrees {u = true} e t = refl
+agrees {u = false} e t = sym t ∙ e
 
 -- a sum compared by the difference
 pub eqb-moved : (a b d : ℕ) → b ≤ a → eqb (a - b) d ≡ eqb a (b + d)

@@ -5,20 +5,26 @@ ghost use Rattle.rules.specs.Ending.{consumed};
 ghost use Rattle.rules.specs.Asking.{is_outstanding, unasked, fewer, ask, request_missing, maybe_finish_receiving, recovered, completed_at, complete_outstanding, in_range, begin_batch, on_retransmission, on_retransmit_reject, rejected, re_request};
 ghost use Rattle.session.specs.View.{view, SessWf, SessIs, StepIs};
 
-use crate::{Session, Step, wide};
+use crate::{Session, Step};
 use queue::Outputs;
 use types::binding::Binding;
 use types::ids::{ALL_ONES, Instant, Nanotime, TerminationCode};
-use types::messages::{FinishedReceiving, MessageName, Retransmission, RetransmitReject, RetransmitRequest, SessionMessage};
+use types::messages::{
+    FinishedReceiving, MessageName, Retransmission, RetransmitReject, RetransmitRequest,
+    SessionMessage,
+};
 use types::output::Event;
 use types::parts::{Gap, Outstanding, PeerFinished, Replay};
-use types::reasons::{CLOCK, REJECT_UNASKED, RETRANSMISSION_FLOW, RETRANSMISSION_FOREIGN, RETRANSMISSION_OTHER, RETRANSMISSION_RANGE, RETRANSMISSION_UNASKED, Reason};
+use types::reasons::{
+    CLOCK, REJECT_UNASKED, RETRANSMISSION_FLOW, RETRANSMISSION_FOREIGN, RETRANSMISSION_OTHER,
+    RETRANSMISSION_RANGE, RETRANSMISSION_UNASKED, Reason,
+};
 
 /// The smaller of a length and a limit.
 fn at_most(len: u64, max: u32) -> u32
     ensures { result ≡ fewer len max }
 {
-    if len <= wide(max) {
+    if len <= max as u64 {
         return len as u32;
     }
     max
@@ -26,47 +32,48 @@ fn at_most(len: u64, max: u32) -> u32
 
 impl Session {
     /// The request for a gap that is not empty.
-    fn ask(self, binding: Binding, queue: Outputs, now: Instant, stamp: Nanotime, gap: Gap) -> Step
+    fn ask(
+        mut self,
+        binding: Binding,
+        queue: Outputs,
+        now: Instant,
+        stamp: Nanotime,
+        gap: Gap,
+    ) -> Step
         requires sess_wf { SessWf self }
         requires outs_wf { OutsWf queue }
         requires queue_len_bound { length (queue_of queue).outs + 1 ≤ 32 }
         requires from_lt_end { gap.from.0 < gap.end.0 }
         ensures { StepIs result (queue_of queue) (ask now stamp gap (view self) binding) }
     {
-        let mut session = self;
         let mut leaving = binding;
-        let config = session.config;
-        let count = at_most(gap.end.0 - gap.from.0, config.max_retransmit_count);
-        let session_id = session.id;
+        let count = at_most(gap.end.0 - gap.from.0, self.config.max_retransmit_count);
         let from = gap.from;
         let asked = queue.send(SessionMessage::RetransmitRequest(RetransmitRequest {
-            session_id,
+            session_id: self.id,
             timestamp: stamp,
             from_seq_no: from,
             count,
         }));
         leaving.in_sequence = false;
-        session.outstanding = Some(Outstanding {
-                timestamp: stamp,
-                from,
-                count,
-                delivered: 0,
-                last_progress: now,
-                interrupted: false,
-                batch_complete: false,
-                stall_reported: false,
-            });
-        session.stay(leaving, asked)
+        self.outstanding = Some(Outstanding {
+            timestamp: stamp,
+            from,
+            count,
+            delivered: 0,
+            last_progress: now,
+            interrupted: false,
+            batch_complete: false,
+            stall_reported: false,
+        });
+        self.stay(leaving, asked)
     }
 
     /// Whether a request is in flight.
     fn is_asking(self) -> bool
         ensures { result ≡ is_outstanding (view self).outstanding }
     {
-        let Some(outstanding) = self.outstanding else {
-            return false;
-        };
-        true
+        matches!(self.outstanding, Some(_))
     }
 
     /// Requests the start of the first unrecovered gap, if nothing is in flight (FIXP 4.6.1).
@@ -85,15 +92,13 @@ impl Session {
         if !binding.is_established() {
             return self.stay(binding, queue);
         }
-        let remote_flow = self.remote_flow;
-        if !remote_flow.is_recoverable() {
+        if !self.remote_flow.is_recoverable() {
             return self.stay(binding, queue);
         }
         if self.is_asking() {
             return self.stay(binding, queue);
         }
-        let gaps = self.gaps;
-        let Some(gap) = gaps.front() else {
+        let Some(gap) = self.gaps.front() else {
             return self.stay(binding, queue);
         };
         if gap.end.0 <= gap.from.0 {
@@ -106,39 +111,37 @@ impl Session {
     }
 
     /// Sends FinishedReceiving once the peer has finished and no gap is still being recovered (FIXP 4.7.2).
-    pub fn maybe_finish_receiving(self, binding: Binding, queue: Outputs) -> Step
+    pub fn maybe_finish_receiving(mut self, binding: Binding, queue: Outputs) -> Step
         requires sess_wf { SessWf self }
         requires outs_wf { OutsWf queue }
         requires queue_len_bound { length (queue_of queue).outs + 1 ≤ 32 }
         ensures { StepIs result (queue_of queue) (maybe_finish_receiving (view self) binding) }
     {
-        let mut session = self;
         let mut leaving = binding;
-        let Some(finished) = session.peer_finished else {
-            return session.stay(binding, queue);
+        let Some(finished) = self.peer_finished else {
+            return self.stay(binding, queue);
         };
         if finished.receiving_sent {
-            return session.stay(binding, queue);
+            return self.stay(binding, queue);
         }
         if !binding.is_established() {
-            return session.stay(binding, queue);
+            return self.stay(binding, queue);
         }
-        let gaps = session.gaps;
-        if !gaps.is_empty() {
-            return session.stay(binding, queue);
+        if !self.gaps.is_empty() {
+            return self.stay(binding, queue);
         }
-        if session.is_asking() {
-            return session.stay(binding, queue);
+        if self.is_asking() {
+            return self.stay(binding, queue);
         }
-        let session_id = session.id;
-        let sent = queue.send(SessionMessage::FinishedReceiving(FinishedReceiving { session_id }));
-        let end = finished.end;
-        session.peer_finished = Some(PeerFinished {
-                receiving_sent: true,
-                end,
-            });
+        let sent = queue.send(SessionMessage::FinishedReceiving(FinishedReceiving {
+            session_id: self.id,
+        }));
+        self.peer_finished = Some(PeerFinished {
+            receiving_sent: true,
+            end: finished.end,
+        });
         leaving.in_sequence = false;
-        session.stay(leaving, sent)
+        self.stay(leaving, sent)
     }
 
     /// A request is over: the next gap is asked for, or recovery is complete.
@@ -148,8 +151,7 @@ impl Session {
         requires queue_len_bound { length (queue_of queue).outs + 3 ≤ 32 }
         ensures { StepIs result (queue_of queue) (recovered now stamp (view self) binding) }
     {
-        let gaps = self.gaps;
-        if gaps.is_empty() {
+        if self.gaps.is_empty() {
             let told = queue.event(Event::RecoveryComplete);
             return self.maybe_finish_receiving(binding, told);
         }
@@ -157,16 +159,15 @@ impl Session {
     }
 
     /// The whole count of the request in flight is consumed, and the request is gone.
-    fn consume_outstanding(self) -> Session
+    fn consume_outstanding(mut self) -> Session
         requires { SessWf self }
         ensures { SessIs result (completed_at (view self).outstanding (view self)) }
     {
-        let mut session = self;
-        let Some(outstanding) = session.outstanding else {
-            return session;
+        let Some(outstanding) = self.outstanding else {
+            return self;
         };
-        session.outstanding = None;
-        session.consume_missing(wide(outstanding.count))
+        self.outstanding = None;
+        self.consume_missing(outstanding.count as u64)
     }
 
     /// The request in flight was answered in full.
@@ -189,7 +190,7 @@ impl Session {
 
     /// The batch that a matching header begins.
     fn begin_batch(
-        self,
+        mut self,
         binding: Binding,
         queue: Outputs,
         now: Instant,
@@ -200,20 +201,18 @@ impl Session {
         requires outs_wf { OutsWf queue }
         ensures { StepIs result (queue_of queue) (begin_batch now message outstanding (view self) binding) }
     {
-        let mut session = self;
-        let next = message.next_seq_no;
-        session.replay = Some(Replay {
-                next,
-                remaining: message.count,
-            });
-        session.awaiting_resume = true;
+        self.replay = Some(Replay {
+            next: message.next_seq_no,
+            remaining: message.count,
+        });
+        self.awaiting_resume = true;
         let mut begun = outstanding;
         begun.last_progress = now;
         begun.interrupted = false;
         begun.batch_complete = false;
         begun.stall_reported = false;
-        session.outstanding = Some(begun);
-        session.stay(binding, queue)
+        self.outstanding = Some(begun);
+        self.stay(binding, queue)
     }
 
     /// A Retransmission header (FIXP 4.6.2).
@@ -229,12 +228,10 @@ impl Session {
         requires queue_len_bound { length (queue_of queue).outs + 4 ≤ 32 }
         ensures { StepIs result (queue_of queue) (on_retransmission now message (view self) binding) }
     {
-        let remote_flow = self.remote_flow;
-        if !remote_flow.is_recoverable() {
+        if !self.remote_flow.is_recoverable() {
             return self.violation(binding, queue, RETRANSMISSION_FLOW);
         }
-        let theirs = message.session_id;
-        if !theirs.same(self.id) {
+        if message.session_id != self.id {
             return self.violation(binding, queue, RETRANSMISSION_FOREIGN);
         }
         let Some(outstanding) = self.outstanding else {
@@ -251,7 +248,7 @@ impl Session {
 
     /// The range of a refused request is abandoned.
     fn abandon(
-        self,
+        mut self,
         binding: Binding,
         queue: Outputs,
         now: Instant,
@@ -265,20 +262,17 @@ impl Session {
         requires queue_len_bound { length (queue_of queue).outs + 4 ≤ 32 }
         ensures { StepIs result (queue_of queue) (rejected now stamp message text outstanding (view self) binding) }
     {
-        let mut session = self;
-        let from = outstanding.from;
-        let code = message.code;
         let told = queue.event_quoting(
             Event::RetransmitRejected {
-                from,
+                from: outstanding.from,
                 count: outstanding.count,
-                code,
+                code: message.code,
             },
             text,
         );
-        session.outstanding = None;
-        session.replay = None;
-        let left = session.consume_missing(wide(outstanding.count));
+        self.outstanding = None;
+        self.replay = None;
+        let left = self.consume_missing(outstanding.count as u64);
         left.recovered(binding, told, now, stamp)
     }
 
@@ -303,8 +297,7 @@ impl Session {
         if outstanding.timestamp.0 != message.request_timestamp.0 {
             return self.ignore_reject(binding, queue);
         }
-        let theirs = message.session_id;
-        if !theirs.same(self.id) {
+        if message.session_id != self.id {
             return self.ignore_reject(binding, queue);
         }
         self.abandon(binding, queue, now, stamp, message, text, outstanding)
@@ -323,7 +316,7 @@ impl Session {
 
     /// Gives up a stalled request, keeps what it delivered, and asks for what is still missing.
     pub fn re_request(
-        self,
+        mut self,
         binding: Binding,
         queue: Outputs,
         now: Instant,
@@ -335,10 +328,9 @@ impl Session {
         requires queue_len_bound { length (queue_of queue).outs + 3 ≤ 32 }
         ensures { StepIs result (queue_of queue) (re_request now stamp outstanding (view self) binding) }
     {
-        let mut session = self;
-        session.outstanding = None;
-        session.replay = None;
-        let left = session.consume_missing(wide(outstanding.delivered));
+        self.outstanding = None;
+        self.replay = None;
+        let left = self.consume_missing(outstanding.delivered as u64);
         left.request_missing(binding, queue, now, stamp)
     }
 }
@@ -350,11 +342,11 @@ fn in_range(message: Retransmission, outstanding: Outstanding) -> bool
     if message.count < 1 {
         return false;
     }
-    if wide(message.count) + wide(outstanding.delivered) > wide(outstanding.count) {
+    if message.count as u64 + outstanding.delivered as u64 > outstanding.count as u64 {
         return false;
     }
     if message.next_seq_no.0 < outstanding.from.0 {
         return false;
     }
-    message.next_seq_no.0 - outstanding.from.0 == wide(outstanding.delivered)
+    message.next_seq_no.0 - outstanding.from.0 == outstanding.delivered as u64
 }

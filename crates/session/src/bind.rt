@@ -7,7 +7,7 @@ ghost use Rattle.session.specs.View.{view, SessWf, StepIs};
 use crate::{Session, Step};
 use queue::Outputs;
 use types::binding::{BindState, Binding};
-use types::ids::{Instant, SeqNum, Nanotime};
+use types::ids::{Instant, Nanotime, SeqNum};
 
 /// A binding that begins now.
 fn new_binding(now: Instant, local_keepalive: u64, remote_keepalive: u64) -> Binding
@@ -58,22 +58,17 @@ impl Session {
         requires queue_len_bound { length (queue_of queue).outs + 6 ≤ 32 }
         ensures { StepIs result (queue_of queue) (on_established next now stamp (view self) binding) }
     {
-        let remote_flow = self.remote_flow;
-        if !remote_flow.is_sequenced() {
+        if !self.remote_flow.is_sequenced() {
             return self.resume(binding, queue, now, stamp);
         }
         let Some(number) = next else {
             return self.resume(binding, queue, now, stamp);
         };
         let step = self.on_next_seq(binding, queue, number, now, stamp);
-        let bound = step.bound;
-        if !bound.is_stay() {
+        if !step.bound.is_stay() {
             return step;
         }
-        let session = step.session;
-        let kept = step.binding;
-        let rest = step.queue;
-        session.resume(kept, rest, now, stamp)
+        step.session.resume(step.binding, step.queue, now, stamp)
     }
 
     /// What an earlier binding left missing is asked for again.
@@ -84,13 +79,10 @@ impl Session {
         ensures { StepIs result (queue_of queue) (resume now stamp (view self) binding) }
     {
         let step = self.request_missing(binding, queue, now, stamp);
-        let bound = step.bound;
-        if !bound.is_stay() {
+        if !step.bound.is_stay() {
             return step;
         }
-        let session = step.session;
-        let kept = step.binding;
-        let rest = step.queue;
-        session.maybe_finish_receiving(kept, rest)
+        step.session
+            .maybe_finish_receiving(step.binding, step.queue)
     }
 }

@@ -28,8 +28,7 @@ fn grace_or(grace: Option<u64>, keepalive: u64) -> u64
 fn heartbeat_deadline(binding: Binding) -> Option<Instant>
     ensures { result ≡ heartbeat_deadline binding }
 {
-    let last = binding.last_keepalive;
-    last.checked_add(binding.local_keepalive)
+    binding.last_keepalive.checked_add(binding.local_keepalive)
 }
 
 /// The earlier of two deadlines.
@@ -63,14 +62,13 @@ impl Session {
     fn silence_deadline(self, binding: Binding) -> Option<Instant>
         ensures { result ≡ silence_deadline (view self) binding }
     {
-        let config = self.config;
-        let own = config.peer_silence_grace;
-        let grace = grace_or(own, binding.remote_keepalive);
+        let grace = grace_or(self.config.peer_silence_grace, binding.remote_keepalive);
         if ALL_ONES - grace < binding.remote_keepalive {
             return None;
         }
-        let last = binding.last_received;
-        last.checked_add(binding.remote_keepalive + grace)
+        binding
+            .last_received
+            .checked_add(binding.remote_keepalive + grace)
     }
 
     /// When the request in flight stalls; a stall already reported runs no timer.
@@ -83,17 +81,16 @@ impl Session {
         if outstanding.stall_reported {
             return None;
         }
-        let config = self.config;
-        let last = outstanding.last_progress;
-        last.checked_add(config.retransmit_timeout)
+        outstanding
+            .last_progress
+            .checked_add(self.config.retransmit_timeout)
     }
 
     /// The next instant at which a timeout has work to do.
     pub fn next_deadline(self, binding: Binding) -> Option<Instant>
         ensures { result ≡ next_deadline (view self) binding }
     {
-        let state = binding.state;
-        match state {
+        match binding.state {
             BindState::Established => {
                 let silence = self.silence_deadline(binding);
                 let beat = heartbeat_deadline(binding);
@@ -121,8 +118,7 @@ impl Session {
         requires queue_len_bound { length (queue_of queue).outs + 4 ≤ 32 }
         ensures { StepIs result (queue_of queue) (on_timeout now stamp reason (view self) binding) }
     {
-        let state = binding.state;
-        match state {
+        match binding.state {
             BindState::Established => self.established_timeout(binding, queue, now, stamp),
             BindState::Terminating { sent_at, code } => {
                 let lapse = sent_at.checked_add(binding.local_keepalive);
@@ -169,14 +165,10 @@ impl Session {
             return self.fail(binding, told, TerminationCode::UnspecifiedError, KEEPALIVE);
         }
         let step = self.stall_if_due(binding, queue, now, stamp);
-        let bound = step.bound;
-        if !bound.is_stay() {
+        if !step.bound.is_stay() {
             return step;
         }
-        let session = step.session;
-        let kept = step.binding;
-        let rest = step.queue;
-        session.heartbeat_if_due(kept, rest, now)
+        step.session.heartbeat_if_due(step.binding, step.queue, now)
     }
 
     /// The request in flight may have stalled.
@@ -210,9 +202,8 @@ impl Session {
         requires queue_len_bound { length (queue_of queue).outs + 4 ≤ 32 }
         ensures { StepIs result (queue_of queue) (on_stall now stamp outstanding (view self) binding) }
     {
-        let from = outstanding.from;
         let told = queue.event(Event::RetransmitTimedOut {
-            from,
+            from: outstanding.from,
             count: outstanding.count,
         });
         self.stall_by(binding, told, now, stamp, outstanding)
@@ -232,9 +223,7 @@ impl Session {
         requires queue_len_bound { length (queue_of queue).outs + 3 ≤ 32 }
         ensures { StepIs result (queue_of queue) (stall_by (view self).config.retransmit_stall_policy now stamp outstanding (view self) binding) }
     {
-        let config = self.config;
-        let policy = config.retransmit_stall_policy;
-        match policy {
+        match self.config.retransmit_stall_policy {
             RetransmitStallPolicy::Terminate => self.fail(
                 binding,
                 queue,
@@ -261,16 +250,15 @@ impl Session {
     }
 
     /// The stall is reported and waited out.
-    fn wait_out(self, binding: Binding, queue: Outputs, outstanding: Outstanding) -> Step
+    fn wait_out(mut self, binding: Binding, queue: Outputs, outstanding: Outstanding) -> Step
         requires sess_wf { SessWf self }
         requires outs_wf { OutsWf queue }
         ensures { StepIs result (queue_of queue) (wait_out outstanding (view self) binding) }
     {
-        let mut session = self;
         let mut reported = outstanding;
         reported.stall_reported = true;
-        session.outstanding = Some(reported);
-        session.stay(binding, queue)
+        self.outstanding = Some(reported);
+        self.stay(binding, queue)
     }
 
     /// A heartbeat, if this side has been quiet for its keepalive.
@@ -296,13 +284,13 @@ impl Session {
     {
         let mut kept = binding;
         kept.last_keepalive = now;
-        let local_flow = self.local_flow;
-        if !local_flow.is_sequenced() {
+        if !self.local_flow.is_sequenced() {
             let beaten = queue.send(SessionMessage::UnsequencedHeartbeat);
             return self.stay(kept, beaten);
         }
-        let next_seq_no = self.outbound_next;
-        let beaten = queue.send(SessionMessage::Sequence(Sequence { next_seq_no }));
+        let beaten = queue.send(SessionMessage::Sequence(Sequence {
+            next_seq_no: self.outbound_next,
+        }));
         kept.in_sequence = true;
         self.stay(kept, beaten)
     }

@@ -4,7 +4,7 @@ ghost use Rattle.queue.specs.View.{queue_of, OutsWf};
 ghost use Rattle.rules.specs.Ending.{consumed, released_at, release_binding_state, finished_receiving_sent, finalize_if_finished, fail, violation, ended_by, answer_terminate, answered_terminate, on_terminate};
 ghost use Rattle.session.specs.View.{view, SessWf, SessIs, StepIs};
 
-use crate::{Session, Step, wide};
+use crate::{Session, Step};
 use queue::Outputs;
 use types::binding::{BindState, Binding};
 use types::ids::{Instant, TerminationCode};
@@ -18,8 +18,7 @@ impl Session {
         requires { SessWf self }
         ensures { SessIs result (consumed count (view self)) }
     {
-        let gaps = self.gaps;
-        let left = gaps.consume_missing(count);
+        let left = self.gaps.consume_missing(count);
         self.gaps = left;
         self
     }
@@ -33,7 +32,7 @@ impl Session {
             return self;
         };
         self.outstanding = None;
-        self.consume_missing(wide(outstanding.delivered))
+        self.consume_missing(outstanding.delivered as u64)
     }
 
     /// Drops what only made sense on the transport just lost; messages already retransmitted stay recovered.
@@ -93,9 +92,11 @@ impl Session {
             let closed = queue.close_transport();
             return released.unbind(binding, closed);
         }
-        let session_id = self.id;
         let sent = queue.send_with(
-            SessionMessage::Terminate(Terminate { session_id, code }),
+            SessionMessage::Terminate(Terminate {
+                session_id: self.id,
+                code,
+            }),
             reason,
         );
         let told = sent.event_with(
@@ -162,9 +163,8 @@ impl Session {
         requires queue_len_bound { length (queue_of queue).outs + 2 ≤ 32 }
         ensures { StepIs result (queue_of queue) (answer_terminate now message text (view self) binding) }
     {
-        let session_id = self.id;
         let sent = queue.send(SessionMessage::Terminate(Terminate {
-            session_id,
+            session_id: self.id,
             code: TerminationCode::Finished,
         }));
         let code = message.code;
@@ -197,18 +197,15 @@ impl Session {
         requires queue_len_bound { length (queue_of queue).outs + 4 ≤ 32 }
         ensures { StepIs result (queue_of queue) (on_terminate now reason message text (view self) binding) }
     {
-        let theirs = message.session_id;
-        if !theirs.same(self.id) {
+        if message.session_id != self.id {
             return self.violation(binding, queue, TERMINATE_FOREIGN);
         }
-        let code = message.code;
-        let state = binding.state;
-        match state {
+        match binding.state {
             BindState::Established => self.answer_terminate(binding, queue, now, message, text),
             BindState::Terminating {
                 sent_at,
                 code: ours,
-            } => { self.answered_terminate(binding, queue, reason, ours, code) }
+            } => { self.answered_terminate(binding, queue, reason, ours, message.code) }
             BindState::Closing { deadline } => self.stay(binding, queue),
         }
     }

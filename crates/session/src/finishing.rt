@@ -16,18 +16,17 @@ use types::reasons::{FINISHED_FOREIGN, FINISHED_NO_LAST, LAST_BELOW, LAST_OUT_OF
 
 impl Session {
     /// The peer has finished, its numbers ending before `end`; answered at once if nothing is missing (FIXP 4.7.2).
-    fn finished_with(self, binding: Binding, queue: Outputs, end: Option<SeqNum>) -> Step
+    fn finished_with(mut self, binding: Binding, queue: Outputs, end: Option<SeqNum>) -> Step
         requires sess_wf { SessWf self }
         requires outs_wf { OutsWf queue }
         requires queue_len_bound { length (queue_of queue).outs + 1 ≤ 32 }
         ensures { StepIs result (queue_of queue) (finished_with end (view self) binding) }
     {
-        let mut session = self;
-        session.peer_finished = Some(PeerFinished {
-                receiving_sent: false,
-                end,
-            });
-        session.maybe_finish_receiving(binding, queue)
+        self.peer_finished = Some(PeerFinished {
+            receiving_sent: false,
+            end,
+        });
+        self.maybe_finish_receiving(binding, queue)
     }
 
     /// Whether a number lies below what has arrived.
@@ -65,14 +64,11 @@ impl Session {
             return self.violation(binding, queue, LAST_BELOW);
         }
         let step = self.on_next_seq(binding, queue, next, now, stamp);
-        let bound = step.bound;
-        if !bound.is_stay() {
+        if !step.bound.is_stay() {
             return step;
         }
-        let session = step.session;
-        let kept = step.binding;
-        let rest = step.queue;
-        session.finished_with(kept, rest, Some(next))
+        step.session
+            .finished_with(step.binding, step.queue, Some(next))
     }
 
     /// By the peer's flow: only a sequenced one has a last number.
@@ -89,8 +85,7 @@ impl Session {
         requires queue_len_bound { length (queue_of queue).outs + 5 ≤ 32 }
         ensures { StepIs result (queue_of queue) (finished_sending now stamp last (view self) binding) }
     {
-        let remote_flow = self.remote_flow;
-        if remote_flow.is_sequenced() {
+        if self.remote_flow.is_sequenced() {
             return self.finish_at(binding, queue, last, now, stamp);
         }
         self.finished_with(binding, queue, None)
@@ -110,8 +105,7 @@ impl Session {
         requires queue_len_bound { length (queue_of queue).outs + 6 ≤ 32 }
         ensures { StepIs result (queue_of queue) (on_finished_sending now stamp message (view self) binding) }
     {
-        let theirs = message.session_id;
-        if !theirs.same(self.id) {
+        if message.session_id != self.id {
             return self.violation(binding, queue, FINISHED_FOREIGN);
         }
         if self.is_peer_finished() {

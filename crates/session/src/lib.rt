@@ -10,10 +10,11 @@ ghost use Rattle.session.specs.View.{view, SessWf, SessIs, StepIs, with_answer, 
 
 use queue::Outputs;
 use rings::gaps::Gaps;
-use types::answers::{Answer, Verdict};
+use types::answers::{Refusal, Verdict};
 use types::binding::{Binding, Bound};
 use types::config::FixpConfig;
 use types::ids::{FlowType, SeqNum, SessionId};
+use types::parts::{Outstanding, PeerFinished, Provider, Replay};
 
 pub mod asking;
 pub mod bind;
@@ -36,24 +37,18 @@ pub struct Session {
     /// Number of this side's next application message.
     pub outbound_next: SeqNum,
     /// Number of the peer's next live application message, on a sequenced flow.
-    pub inbound_next: SeqSlot,
+    pub inbound_next: Option<SeqNum>,
     /// Nothing has fixed yet where the peer's numbers stand.
     pub start_pending: bool,
     pub gaps: Gaps,
-    pub outstanding: OutstandingSlot,
-    pub replay: ReplaySlot,
+    pub outstanding: Option<Outstanding>,
+    pub replay: Option<Replay>,
     /// A Retransmission has switched the context and no NextSeqNo has switched it back (FIXP 4.6.2.2).
     pub awaiting_resume: bool,
-    pub provider: ProviderSlot,
-    pub peer_finished: PeerFinishedSlot,
+    pub provider: Option<Provider>,
+    pub peer_finished: Option<PeerFinished>,
     /// The logical session is over (FIXP 4.7.2).
     pub finalized: bool,
-}
-
-/// An answer in a struct of its own: a field that is an enum is not stored to.
-#[derive(Clone, Copy)]
-pub struct AnswerSlot {
-    pub it: Answer,
 }
 
 /// What a step leaves: session, binding and queue, whether the binding stands, and the answer.
@@ -63,12 +58,12 @@ pub struct Step {
     pub binding: Binding,
     pub queue: Outputs,
     pub bound: Bound,
-    pub answer: AnswerSlot,
+    pub answer: Result<Verdict, Refusal>,
 }
 
 impl Step {
     /// The same step with another answer.
-    fn answered(mut self, answer: Answer) -> Step
+    fn answered(mut self, answer: Result<Verdict, Refusal>) -> Step
         ensures { result ≡ with_answer answer self }
     {
         self.answer = answer;
@@ -109,7 +104,7 @@ impl Session {
     }
 
     /// The binding stands, and this is the answer.
-    fn reply(self, binding: Binding, queue: Outputs, answer: Answer) -> Step
+    fn reply(self, binding: Binding, queue: Outputs, answer: Result<Verdict, Refusal>) -> Step
         requires sess_wf { SessWf self }
         requires outs_wf { OutsWf queue }
         ensures { StepIs result (queue_of queue) (did (view self) binding [] bind.Stay answer) }
@@ -156,11 +151,4 @@ fn first_of(remote_flow: FlowType) -> Option<SeqNum>
         return Some(SeqNum(1));
     }
     None
-}
-
-/// A count as a length.
-fn wide(x: u32) -> u64
-    ensures { result ≡ x }
-{
-    x as u64
 }

@@ -9,7 +9,7 @@ ghost use Rattle.rules.specs.Local.{send_refused, send_application, terminate_re
 ghost use Rattle.rules.specs.Local.{reject_refused, reject_retransmit_request, end_refused, end_retransmission};
 ghost use Rattle.session.specs.View.{view, SessWf, StepIs, refused_step, LocalIs, sent_numbered};
 
-use crate::{AnswerSlot, Session, Step, wide};
+use crate::{Session, Step};
 use queue::Outputs;
 use types::answers::{Operation, Refusal, RetransmitBatch, Verdict};
 use types::binding::{BindState, Binding, Bound};
@@ -35,7 +35,7 @@ impl Session {
 
     /// Refusal 8: a local call is for an established binding.
     fn refuse_state(self, binding: Binding, queue: Outputs, operation: Operation) -> Step
-        ensures { result ≡ refused_step self binding queue (why.InvalidState operation (status_of binding.state.it)) }
+        ensures { result ≡ refused_step self binding queue (why.InvalidState operation (status_of binding.state)) }
     {
         let status = binding.status();
         self.refuse(binding, queue, Refusal::InvalidState { operation, status })
@@ -91,18 +91,19 @@ impl Session {
         requires outbound_next_bound { self.outbound_next.0 + 1 < all_ones }
         ensures { StepIs result (queue_of queue) (sent_numbered now (view self) binding) }
     {
-        let seq = self.outbound_next;
         let step = self.allocate_outbound(binding, queue);
-        let session = step.session;
         let mut kept = step.binding;
-        let rest = step.queue;
         kept.last_keepalive = now;
-        session.reply(kept, rest, Ok(Verdict::Sent(Some(seq))))
+        step.session.reply(
+            kept,
+            step.queue,
+            Ok(Verdict::Sent(Some(self.outbound_next))),
+        )
     }
 
     /// Starts unbinding the transport (FIXP 4.4): a graceful Terminate waits for the answer, any other does not.
     pub fn terminate(
-        self,
+        mut self,
         binding: Binding,
         queue: Outputs,
         code: TerminationCode,
@@ -114,24 +115,25 @@ impl Session {
         requires queue_len_bound { length (queue_of queue).outs + 3 ≤ 32 }
         ensures { LocalIs result self binding queue (terminate_refused text (view self) binding) (terminate now code text (view self) binding) }
     {
-        let mut session = self;
         let mut waiting = binding;
         if !binding.is_established() {
-            return session.refuse_state(binding, queue, Operation::Terminate);
+            return self.refuse_state(binding, queue, Operation::Terminate);
         }
         if !text.fits() {
-            return session.refuse_reason(binding, queue, text);
+            return self.refuse_reason(binding, queue, text);
         }
-        let session_id = session.id;
         let sent = queue.send_quoting(
-            SessionMessage::Terminate(Terminate { session_id, code }),
+            SessionMessage::Terminate(Terminate {
+                session_id: self.id,
+                code,
+            }),
             text,
         );
         if code.is_finished() {
-            session.provider = None;
+            self.provider = None;
             let terminating = BindState::Terminating { sent_at: now, code };
             waiting.state = terminating;
-            return session.stay(waiting, sent);
+            return self.stay(waiting, sent);
         }
         let told = sent.event_quoting(
             Event::Terminated {
@@ -141,7 +143,7 @@ impl Session {
             text,
         );
         let closed = told.close_transport();
-        let released = session.release_binding_state();
+        let released = self.release_binding_state();
         released.unbind(binding, closed)
     }
 
@@ -169,7 +171,7 @@ impl Session {
                 Refusal::RetransmissionOverrun { count, remaining },
             );
         }
-        if ALL_ONES - wide(provider.sent) < provider.from.0 {
+        if ALL_ONES - (provider.sent as u64) < provider.from.0 {
             return self.refuse(binding, queue, Refusal::SequenceExhausted);
         }
         self.batch(binding, queue, now, count, provider)
@@ -177,7 +179,7 @@ impl Session {
 
     /// The header of the next batch; a Sequence has to come before what is live (FIXP 4.6.2.2).
     fn batch(
-        self,
+        mut self,
         binding: Binding,
         queue: Outputs,
         now: Instant,
@@ -191,22 +193,19 @@ impl Session {
         requires sent_bound { provider.from.0 + provider.sent ≤ all_ones }
         ensures { StepIs result (queue_of queue) (batch now count provider (view self) binding) }
     {
-        let mut session = self;
         let mut leaving = binding;
-        let session_id = session.id;
-        let request_timestamp = provider.request_timestamp;
-        let from = SeqNum(provider.from.0 + wide(provider.sent));
+        let from = SeqNum(provider.from.0 + provider.sent as u64);
         let sent = queue.send(SessionMessage::Retransmission(Retransmission {
-            session_id,
-            request_timestamp,
+            session_id: self.id,
+            request_timestamp: provider.request_timestamp,
             next_seq_no: from,
             count,
         }));
         let it = provider_after(provider, count);
-        session.provider = it;
+        self.provider = it;
         leaving.in_sequence = false;
         leaving.last_keepalive = now;
-        session.reply(
+        self.reply(
             leaving,
             sent,
             Ok(Verdict::Batch(RetransmitBatch { from, count })),
@@ -215,7 +214,7 @@ impl Session {
 
     /// Refuses the request being served (FIXP 4.6.2.3).
     pub fn reject_retransmit_request(
-        self,
+        mut self,
         binding: Binding,
         queue: Outputs,
         code: RetransmitRejectCode,
@@ -226,47 +225,43 @@ impl Session {
         requires queue_len_bound { length (queue_of queue).outs + 1 ≤ 32 }
         ensures { LocalIs result self binding queue (reject_refused text (view self) binding) (reject_retransmit_request code text (view self) binding) }
     {
-        let mut session = self;
         let mut leaving = binding;
         if !binding.is_established() {
-            return session.refuse_state(binding, queue, Operation::RejectRetransmitRequest);
+            return self.refuse_state(binding, queue, Operation::RejectRetransmitRequest);
         }
         if !text.fits() {
-            return session.refuse_reason(binding, queue, text);
+            return self.refuse_reason(binding, queue, text);
         }
-        let Some(provider) = session.provider else {
-            return session.refuse(binding, queue, Refusal::NoRetransmissionInProgress);
+        let Some(provider) = self.provider else {
+            return self.refuse(binding, queue, Refusal::NoRetransmissionInProgress);
         };
-        let session_id = session.id;
-        let request_timestamp = provider.request_timestamp;
         let sent = queue.send_quoting(
             SessionMessage::RetransmitReject(RetransmitReject {
-                session_id,
-                request_timestamp,
+                session_id: self.id,
+                request_timestamp: provider.request_timestamp,
                 code,
             }),
             text,
         );
-        session.provider = None;
+        self.provider = None;
         leaving.in_sequence = false;
-        session.stay(leaving, sent)
+        self.stay(leaving, sent)
     }
 
     /// Stops serving a request before all of it was sent; the requester asks again for the rest (FIXP 4.6.2.2).
-    pub fn end_retransmission(self, binding: Binding, queue: Outputs) -> Step
+    pub fn end_retransmission(mut self, binding: Binding, queue: Outputs) -> Step
         requires sess_wf { SessWf self }
         requires outs_wf { OutsWf queue }
         ensures { LocalIs result self binding queue (end_refused (view self) binding) (end_retransmission (view self) binding) }
     {
-        let mut session = self;
         if !binding.is_established() {
-            return session.refuse_state(binding, queue, Operation::EndRetransmission);
+            return self.refuse_state(binding, queue, Operation::EndRetransmission);
         }
-        let Some(provider) = session.provider else {
-            return session.refuse(binding, queue, Refusal::NoRetransmissionInProgress);
+        let Some(provider) = self.provider else {
+            return self.refuse(binding, queue, Refusal::NoRetransmissionInProgress);
         };
-        session.provider = None;
-        session.stay(binding, queue)
+        self.provider = None;
+        self.stay(binding, queue)
     }
 }
 

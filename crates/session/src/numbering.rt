@@ -10,7 +10,7 @@ ghost use Rattle.rules.specs.Numbering.{allocate_outbound, not_applied_numbered,
 ghost use Rattle.rules.specs.Numbering.{discard, replay_after, count_delivered, complete_if, replayed_counted, on_replayed, number_live, numbered_as, is_peer_finished, on_live, on_application};
 ghost use Rattle.session.specs.View.{view, SessWf, SessIs, StepIs, CountedIs};
 
-use crate::{Session, Step, wide};
+use crate::{Session, Step};
 use queue::Outputs;
 use rings::gaps::Kept;
 use types::answers::{Delivery, Verdict};
@@ -19,7 +19,12 @@ use types::ids::{ALL_ONES, FlowType, Instant, Nanotime, SeqNum, TerminationCode}
 use types::messages::{MessageName, NotApplied, Sequence, SessionMessage};
 use types::output::Event;
 use types::parts::Replay;
-use types::reasons::{AFTER_TERMINATE, APPLICATION_AFTER_FINISHED, APPLICATION_BEFORE_RESUME, APPLICATION_BEFORE_SEQUENCE, APPLICATION_ON_NONE, GAP_NOT_APPLIED, GAP_TOO_LONG, INBOUND_EXHAUSTED, NEXT_LOWER, NEXT_PAST_LAST, NEXT_ZERO, OUTBOUND_EXHAUSTED, REPLAY_OVERFLOW, SEQUENCE_UNSEQUENCED, TOO_MANY_GAPS};
+use types::reasons::{
+    AFTER_TERMINATE, APPLICATION_AFTER_FINISHED, APPLICATION_BEFORE_RESUME,
+    APPLICATION_BEFORE_SEQUENCE, APPLICATION_ON_NONE, GAP_NOT_APPLIED, GAP_TOO_LONG,
+    INBOUND_EXHAUSTED, NEXT_LOWER, NEXT_PAST_LAST, NEXT_ZERO, OUTBOUND_EXHAUSTED, REPLAY_OVERFLOW,
+    SEQUENCE_UNSEQUENCED, TOO_MANY_GAPS,
+};
 
 /// The session after one more delivered message, and whether its request is now answered in full.
 #[derive(Clone, Copy)]
@@ -66,39 +71,37 @@ impl Session {
     }
 
     /// The batch after one more of its messages.
-    fn advance_replay(self, replay: Replay) -> Session
+    fn advance_replay(mut self, replay: Replay) -> Session
         requires sess_wf { SessWf self }
         requires next_lt_all_ones { replay.next.0 < all_ones }
         ensures { SessIs result (with_replay (replay_after replay) (view self)) }
     {
-        let mut session = self;
         if replay.remaining <= 1 {
-            session.replay = None;
-            return session;
+            self.replay = None;
+            return self;
         }
         let next = SeqNum(replay.next.0 + 1);
-        session.replay = Some(Replay {
-                next,
-                remaining: replay.remaining - 1,
-            });
-        session
+        self.replay = Some(Replay {
+            next,
+            remaining: replay.remaining - 1,
+        });
+        self
     }
 
     /// One more was delivered of the request in flight, the last of its batch or not.
-    fn count_delivered(self, now: Instant, last: bool) -> Counted
+    fn count_delivered(mut self, now: Instant, last: bool) -> Counted
         requires { SessWf self }
         ensures { CountedIs result (count_delivered now last (view self)) }
     {
-        let mut session = self;
-        let Some(outstanding) = session.outstanding else {
+        let Some(outstanding) = self.outstanding else {
             return Counted {
-                session,
+                session: self,
                 complete: false,
             };
         };
         if outstanding.delivered == 4294967295 {
             return Counted {
-                session,
+                session: self,
                 complete: true,
             };
         }
@@ -108,9 +111,9 @@ impl Session {
         progressed.last_progress = now;
         progressed.batch_complete = last;
         progressed.stall_reported = false;
-        session.outstanding = Some(progressed);
+        self.outstanding = Some(progressed);
         Counted {
-            session,
+            session: self,
             complete: outstanding.count <= delivered,
         }
     }
@@ -137,7 +140,7 @@ impl Session {
 
     /// A retransmitted message is accepted, unless it was received live already (FIXP 3.4.4: exactly once).
     fn deliver_replayed(
-        self,
+        mut self,
         complete: bool,
         binding: Binding,
         queue: Outputs,
@@ -150,12 +153,9 @@ impl Session {
         requires queue_len_bound { length (queue_of queue).outs + 3 ≤ 32 }
         ensures { StepIs result (queue_of queue) (replayed_counted now stamp seq (record { session = view self; complete = complete }) binding) }
     {
-        let mut session = self;
-        let gaps = session.gaps;
-        let seen = gaps.received_in_overflow(seq);
-        let left = seen.gaps;
-        session.gaps = left;
-        let step = session.complete_if(complete, binding, queue, now, stamp);
+        let seen = self.gaps.received_in_overflow(seq);
+        self.gaps = seen.gaps;
+        let step = self.complete_if(complete, binding, queue, now, stamp);
         if seen.duplicate {
             return step.answered(Ok(Verdict::Delivered(Delivery::Discard)));
         }
@@ -185,18 +185,16 @@ impl Session {
         }
         let advanced = self.advance_replay(replay);
         let counted = advanced.count_delivered(now, replay.remaining <= 1);
-        let session = counted.session;
-        session.deliver_replayed(counted.complete, binding, queue, seq, now, stamp)
+        counted
+            .session
+            .deliver_replayed(counted.complete, binding, queue, seq, now, stamp)
     }
 
     /// Whether the peer has sent FinishedSending.
     pub fn is_peer_finished(self) -> bool
         ensures { result ≡ is_peer_finished (view self).peer_finished }
     {
-        let Some(finished) = self.peer_finished else {
-            return false;
-        };
-        true
+        matches!(self.peer_finished, Some(_))
     }
 
     /// A live message, by the peer's flow.
@@ -209,8 +207,7 @@ impl Session {
         if self.is_peer_finished() {
             return self.discard_violation(binding, queue, APPLICATION_AFTER_FINISHED);
         }
-        let remote_flow = self.remote_flow;
-        match remote_flow {
+        match self.remote_flow {
             FlowType::None => self.discard_violation(binding, queue, APPLICATION_ON_NONE),
             FlowType::Unsequenced => self.reply(
                 binding,
@@ -226,26 +223,25 @@ impl Session {
     }
 
     /// The expected number is this message's, and settles the start as it stands.
-    fn number_live(self, binding: Binding, queue: Outputs) -> Step
+    fn number_live(mut self, binding: Binding, queue: Outputs) -> Step
         requires sess_wf { SessWf self }
         requires outs_wf { OutsWf queue }
         requires queue_len_bound { length (queue_of queue).outs + 4 ≤ 32 }
         ensures { StepIs result (queue_of queue) (number_live (view self) binding) }
     {
-        let mut session = self;
-        if session.awaiting_resume {
-            return session.discard_violation(binding, queue, APPLICATION_BEFORE_RESUME);
+        if self.awaiting_resume {
+            return self.discard_violation(binding, queue, APPLICATION_BEFORE_RESUME);
         }
-        session.start_pending = false;
-        let Some(seq) = session.inbound_next else {
-            return session.discard_violation(binding, queue, APPLICATION_BEFORE_SEQUENCE);
+        self.start_pending = false;
+        let Some(seq) = self.inbound_next else {
+            return self.discard_violation(binding, queue, APPLICATION_BEFORE_SEQUENCE);
         };
         if seq.0 == ALL_ONES {
-            return session.discard_violation(binding, queue, INBOUND_EXHAUSTED);
+            return self.discard_violation(binding, queue, INBOUND_EXHAUSTED);
         }
         let following = Some(SeqNum(seq.0 + 1));
-        session.inbound_next = following;
-        session.reply(
+        self.inbound_next = following;
+        self.reply(
             binding,
             queue,
             Ok(Verdict::Delivered(Delivery::Accept {
@@ -269,8 +265,7 @@ impl Session {
         requires queue_len_bound { length (queue_of queue).outs + 5 ≤ 32 }
         ensures { StepIs result (queue_of queue) (on_next_seq now stamp next (view self) binding) }
     {
-        let remote_flow = self.remote_flow;
-        if !remote_flow.is_sequenced() {
+        if !self.remote_flow.is_sequenced() {
             return self.violation(binding, queue, SEQUENCE_UNSEQUENCED);
         }
         if next.0 == 0 {
@@ -297,39 +292,37 @@ impl Session {
     }
 
     /// A context switch ends a batch; one still short of its count was cut off (FIXP 3.5.4).
-    fn stop_replay(self, now: Instant) -> Session
+    fn stop_replay(mut self, now: Instant) -> Session
         requires { SessWf self }
         ensures { SessIs result (stop_replay now (view self)) }
     {
-        let mut session = self;
-        session.awaiting_resume = false;
-        let Some(replay) = session.replay else {
-            return session;
+        self.awaiting_resume = false;
+        let Some(replay) = self.replay else {
+            return self;
         };
-        session.replay = None;
-        session.cut_off(now)
+        self.replay = None;
+        self.cut_off(now)
     }
 
     /// The request in flight was interrupted, and waits for its stall from now.
-    fn cut_off(self, now: Instant) -> Session
+    fn cut_off(mut self, now: Instant) -> Session
         requires { SessWf self }
         ensures { SessIs result (with_outstanding (cut_off (view self).outstanding now) (view self)) }
     {
-        let mut session = self;
-        let Some(outstanding) = session.outstanding else {
-            return session;
+        let Some(outstanding) = self.outstanding else {
+            return self;
         };
         let mut cut = outstanding;
         cut.interrupted = true;
         cut.stall_reported = false;
         cut.last_progress = now;
-        session.outstanding = Some(cut);
-        session
+        self.outstanding = Some(cut);
+        self
     }
 
     /// An announced number against the expected one: the first announcement sets it (FIXP, Appendix A 7.2.2 and 7.3.1).
     fn announced(
-        self,
+        mut self,
         binding: Binding,
         queue: Outputs,
         next: SeqNum,
@@ -341,37 +334,34 @@ impl Session {
         requires queue_len_bound { length (queue_of queue).outs + 5 ≤ 32 }
         ensures { StepIs result (queue_of queue) (announced now stamp next (view self) binding) }
     {
-        let mut session = self;
-        if session.start_pending {
-            session.start_pending = false;
-            let first = session.with_inbound(next);
+        if self.start_pending {
+            self.start_pending = false;
+            let first = self.with_inbound(next);
             return first.stay(binding, queue);
         }
-        let Some(expected) = session.inbound_next else {
-            let first = session.with_inbound(next);
+        let Some(expected) = self.inbound_next else {
+            let first = self.with_inbound(next);
             return first.stay(binding, queue);
         };
         if next.0 < expected.0 {
-            return session.violation(binding, queue, NEXT_LOWER);
+            return self.violation(binding, queue, NEXT_LOWER);
         }
         if next.0 == expected.0 {
-            return session.stay(binding, queue);
+            return self.stay(binding, queue);
         }
-        let config = session.config;
-        if next.0 - expected.0 > config.max_gap_len {
-            return session.violation(binding, queue, GAP_TOO_LONG);
+        if next.0 - expected.0 > self.config.max_gap_len {
+            return self.violation(binding, queue, GAP_TOO_LONG);
         }
-        session.on_gap(binding, queue, expected, next, now, stamp)
+        self.on_gap(binding, queue, expected, next, now, stamp)
     }
 
     /// The number that the peer's next live message has.
-    fn with_inbound(self, next: SeqNum) -> Session
+    fn with_inbound(mut self, next: SeqNum) -> Session
         requires { SessWf self }
         ensures { SessIs result (with_inbound (Some next) (view self)) }
     {
-        let mut session = self;
-        session.inbound_next = Some(next);
-        session
+        self.inbound_next = Some(next);
+        self
     }
 
     /// The peer's flow skipped the numbers from `expected` to `next`.
@@ -394,8 +384,7 @@ impl Session {
             from: expected,
             count: next.0 - expected.0,
         });
-        let remote_flow = self.remote_flow;
-        match remote_flow {
+        match self.remote_flow {
             FlowType::Recoverable => self.record_gap(binding, told, expected, next, now, stamp),
             FlowType::Idempotent => self.report_gap(binding, told, expected, next, now),
             FlowType::Unsequenced => self.skip_gap(binding, told, next),
@@ -415,7 +404,7 @@ impl Session {
 
     /// A Recoverable peer's gap is kept and asked for, or held past the bound (FIXP 4.6.1).
     fn record_gap(
-        self,
+        mut self,
         binding: Binding,
         queue: Outputs,
         from: SeqNum,
@@ -428,36 +417,32 @@ impl Session {
         requires queue_len_bound { length (queue_of queue).outs + 4 ≤ 32 }
         ensures { StepIs result (queue_of queue) (gap_on flow.Recoverable now stamp from next (view self) binding) }
     {
-        let mut session = self;
-        let config = session.config;
-        let gaps = session.gaps;
-        let kept = gaps.record_gap(config.max_pending_gaps, from, next);
+        let config = self.config;
+        let kept = self.gaps.record_gap(config.max_pending_gaps, from, next);
         let lists = kept.gaps;
         if kept.ok {
-            session.gaps = lists;
-            let moved = session.with_inbound(next);
+            self.gaps = lists;
+            let moved = self.with_inbound(next);
             return moved.request_missing(binding, queue, now, stamp);
         }
         let held = lists.hold_refused_gap(config.max_pending_gaps, from, next);
-        session.hold_gap(binding, queue, next, held)
+        self.hold_gap(binding, queue, next, held)
     }
 
     /// Past the bound the gap is held, unless even its runs have no room, and the binding ends.
-    fn hold_gap(self, binding: Binding, queue: Outputs, next: SeqNum, held: Kept) -> Step
+    fn hold_gap(mut self, binding: Binding, queue: Outputs, next: SeqNum, held: Kept) -> Step
         requires sess_wf { SessWf self }
         requires gaps_wf { GapsWf held.gaps }
         requires outs_wf { OutsWf queue }
         requires queue_len_bound { length (queue_of queue).outs + 4 ≤ 32 }
         ensures { StepIs result (queue_of queue) (gap_held next (view_kept held) (view self) binding) }
     {
-        let mut session = self;
-        let lists = held.gaps;
-        session.gaps = lists;
+        self.gaps = held.gaps;
         if held.ok {
-            let moved = session.with_inbound(next);
+            let moved = self.with_inbound(next);
             return moved.violation(binding, queue, TOO_MANY_GAPS);
         }
-        session.violation(binding, queue, TOO_MANY_GAPS)
+        self.violation(binding, queue, TOO_MANY_GAPS)
     }
 
     /// An Idempotent peer's gap is not kept but reported (FIXP 4.8.2).
@@ -492,24 +477,23 @@ impl Session {
     }
 
     /// Numbers this side's next application message, behind a Sequence where the receiver could not number it by itself.
-    pub fn allocate_outbound(self, binding: Binding, queue: Outputs) -> Step
+    pub fn allocate_outbound(mut self, binding: Binding, queue: Outputs) -> Step
         requires sess_wf { SessWf self }
         requires outs_wf { OutsWf queue }
         requires queue_len_bound { length (queue_of queue).outs + 1 ≤ 32 }
         requires outbound_next_bound { self.outbound_next.0 + 1 < all_ones }
         ensures { StepIs result (queue_of queue) (allocate_outbound (view self) binding) }
     {
-        let mut session = self;
         let mut numbered = binding;
-        let seq = session.outbound_next;
+        let seq = self.outbound_next;
         let following = SeqNum(seq.0 + 1);
-        session.outbound_next = following;
+        self.outbound_next = following;
         if numbered.in_sequence {
-            return session.stay(numbered, queue);
+            return self.stay(numbered, queue);
         }
         let sent = queue.send(SessionMessage::Sequence(Sequence { next_seq_no: seq }));
         numbered.in_sequence = true;
-        session.stay(numbered, sent)
+        self.stay(numbered, sent)
     }
 
     /// A NotApplied with a number of this side's flow.
@@ -535,12 +519,10 @@ impl Session {
             );
         }
         let step = self.allocate_outbound(binding, queue);
-        let session = step.session;
         let mut kept = step.binding;
-        let sending = step.queue;
-        let sent = sending.send_application(Some(seq), message);
+        let sent = step.queue.send_application(Some(seq), message);
         kept.last_keepalive = now;
-        session.stay(kept, sent)
+        step.session.stay(kept, sent)
     }
 
     /// Reports a gap of the peer's Idempotent flow, if this side's flow carries it (FIXP 4.8.2).
@@ -560,8 +542,7 @@ impl Session {
         if !kept.is_established() {
             return self.stay(binding, queue);
         }
-        let local_flow = self.local_flow;
-        match local_flow {
+        match self.local_flow {
             FlowType::None => self.stay(binding, queue),
             FlowType::Unsequenced => {
                 let sent = queue.send_application(None, message);

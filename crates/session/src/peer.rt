@@ -7,12 +7,15 @@ ghost use Rattle.session.specs.View.{view, SessWf, StepIs, closing_answer};
 
 use crate::{Session, Step};
 use queue::Outputs;
-use types::answers::{Answer, Delivery, Verdict};
+use types::answers::{Delivery, Refusal, Verdict};
 use types::binding::Binding;
 use types::ids::{ALL_ONES, Instant, Nanotime};
 use types::messages::{Context, PeerMessage};
 use types::output::Event;
-use types::reasons::{AFTER_TERMINATE, CONTEXT_FOREIGN, FINISHED_RECEIVING, HEARTBEAT_SEQUENCED, NOT_APPLIED_FLOW, Reason, TOPIC};
+use types::reasons::{
+    AFTER_TERMINATE, CONTEXT_FOREIGN, FINISHED_RECEIVING, HEARTBEAT_SEQUENCED, NOT_APPLIED_FLOW,
+    Reason, TOPIC,
+};
 
 /// Whether a delivery accepts a message.
 fn is_accepted(delivery: Delivery) -> bool
@@ -25,7 +28,7 @@ fn is_accepted(delivery: Delivery) -> bool
 }
 
 /// Whether an answer accepts a message.
-fn is_accept(answer: Answer) -> bool
+fn is_accept(answer: Result<Verdict, Refusal>) -> bool
     ensures { result ≡ is_accept answer }
 {
     match answer {
@@ -38,7 +41,7 @@ fn is_accept(answer: Answer) -> bool
 }
 
 /// What a closing binding answers: Applied and NotApplied carry their delivery.
-fn closing_answer(message: PeerMessage) -> Answer
+fn closing_answer(message: PeerMessage) -> Result<Verdict, Refusal>
     ensures { result ≡ closing_answer message }
 {
     match message {
@@ -103,8 +106,7 @@ impl Session {
         match message {
             PeerMessage::Topic => self.violation(binding, queue, TOPIC),
             PeerMessage::Sequence(m) => {
-                let next = m.next_seq_no;
-                self.on_next_seq(binding, queue, next, now, stamp)
+                self.on_next_seq(binding, queue, m.next_seq_no, now, stamp)
             }
             PeerMessage::Context(m) => self.on_context(binding, queue, m, now, stamp),
             PeerMessage::UnsequencedHeartbeat => self.on_unsequenced_heartbeat(binding, queue),
@@ -119,25 +121,27 @@ impl Session {
             ),
             PeerMessage::FinishedReceiving => self.violation(binding, queue, FINISHED_RECEIVING),
             PeerMessage::Applied(m) => {
-                let from_seq_no = m.from_seq_no;
-                let count = m.count;
                 self.on_applied(
                     binding,
                     queue,
                     now,
                     stamp,
-                    Event::Applied { from_seq_no, count },
+                    Event::Applied {
+                        from_seq_no: m.from_seq_no,
+                        count: m.count,
+                    },
                 )
             }
             PeerMessage::NotApplied(m) => {
-                let from_seq_no = m.from_seq_no;
-                let count = m.count;
                 self.on_not_applied(
                     binding,
                     queue,
                     now,
                     stamp,
-                    Event::NotApplied { from_seq_no, count },
+                    Event::NotApplied {
+                        from_seq_no: m.from_seq_no,
+                        count: m.count,
+                    },
                 )
             }
             PeerMessage::MessageTemplate => self.stay(binding, queue),
@@ -158,8 +162,7 @@ impl Session {
         requires queue_len_bound { length (queue_of queue).outs + 5 ≤ 32 }
         ensures { StepIs result (queue_of queue) (on_context now stamp message (view self) binding) }
     {
-        let theirs = message.session_id;
-        if !theirs.same(self.id) {
+        if message.session_id != self.id {
             return self.violation(binding, queue, CONTEXT_FOREIGN);
         }
         let next = message.next_seq_no;
@@ -175,8 +178,7 @@ impl Session {
         requires queue_len_bound { length (queue_of queue).outs + 4 ≤ 32 }
         ensures { StepIs result (queue_of queue) (on_unsequenced_heartbeat (view self) binding) }
     {
-        let remote_flow = self.remote_flow;
-        if remote_flow.is_sequenced() {
+        if self.remote_flow.is_sequenced() {
             return self.violation(binding, queue, HEARTBEAT_SEQUENCED);
         }
         self.stay(binding, queue)
@@ -197,12 +199,10 @@ impl Session {
         ensures { StepIs result (queue_of queue) (on_applied now stamp event (view self) binding) }
     {
         let mut step = self.on_application(binding, queue, now, stamp);
-        let answer = step.answer;
-        if !is_accept(answer) {
+        if !is_accept(step.answer) {
             return step;
         }
-        let rest = step.queue;
-        let told = rest.event(event);
+        let told = step.queue.event(event);
         step.queue = told;
         step
     }
@@ -221,8 +221,7 @@ impl Session {
         requires queue_len_bound { length (queue_of queue).outs + 5 ≤ 32 }
         ensures { StepIs result (queue_of queue) (on_not_applied now stamp event (view self) binding) }
     {
-        let local_flow = self.local_flow;
-        if !local_flow.is_idempotent() {
+        if !self.local_flow.is_idempotent() {
             return self.discard_violation(binding, queue, NOT_APPLIED_FLOW);
         }
         self.on_applied(binding, queue, now, stamp, event)

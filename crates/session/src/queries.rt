@@ -16,25 +16,21 @@ impl Session {
     pub fn local_flow(self) -> FlowType
         ensures { result ≡ (view self).local_flow }
     {
-        let flow = self.local_flow;
-        flow
+        self.local_flow
     }
 
     pub fn remote_flow(self) -> FlowType
         ensures { result ≡ (view self).remote_flow }
     {
-        let flow = self.remote_flow;
-        flow
+        self.remote_flow
     }
 
     /// The number of this side's next application message, if its flow has numbers.
     pub fn next_outbound_seq(self) -> Option<SeqNum>
         ensures { result ≡ next_outbound_seq (view self) }
     {
-        let local_flow = self.local_flow;
-        if local_flow.is_sequenced() {
-            let next = self.outbound_next;
-            return Some(next);
+        if self.local_flow.is_sequenced() {
+            return Some(self.outbound_next);
         }
         None
     }
@@ -43,15 +39,13 @@ impl Session {
     pub fn next_inbound_seq(self) -> Option<SeqNum>
         ensures { result ≡ next_inbound_seq (view self) }
     {
-        let next = self.inbound_next;
-        next
+        self.inbound_next
     }
 
     pub fn has_pending_recovery(self) -> bool
         ensures { result ≡ has_pending_recovery (view self) }
     {
-        let gaps = self.gaps;
-        !gaps.is_empty()
+        !self.gaps.is_empty()
     }
 
     /// Whether the logical session is over (FIXP 4.7.2).
@@ -75,8 +69,7 @@ impl Session {
         if self.start_pending {
             return false;
         }
-        let remote_flow = self.remote_flow;
-        if !remote_flow.is_sequenced() {
+        if !self.remote_flow.is_sequenced() {
             return false;
         }
         let Some(number) = next else {

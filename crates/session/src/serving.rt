@@ -4,24 +4,24 @@ ghost use Rattle.queue.specs.View.{queue_of, OutsWf};
 ghost use Rattle.rules.specs.Serving.{is_serving, refuse_retransmit, is_sent, serve, on_retransmit_request};
 ghost use Rattle.session.specs.View.{view, SessWf, StepIs};
 
-use crate::{Session, Step, wide};
+use crate::{Session, Step};
 use queue::Outputs;
 use types::binding::Binding;
 use types::ids::{RetransmitRejectCode, TerminationCode};
 use types::messages::{MessageName, RetransmitReject, RetransmitRequest, SessionMessage};
 use types::output::Event;
 use types::parts::Provider;
-use types::reasons::{REQUEST_EMPTY, REQUEST_FLOW, REQUEST_FOREIGN, REQUEST_IN_PROGRESS, REQUEST_LIMIT, REQUEST_RANGE, REQUEST_TERMINATING};
+use types::reasons::{
+    REQUEST_EMPTY, REQUEST_FLOW, REQUEST_FOREIGN, REQUEST_IN_PROGRESS, REQUEST_LIMIT,
+    REQUEST_RANGE, REQUEST_TERMINATING,
+};
 
 impl Session {
     /// Whether a peer's request is being answered.
     fn is_serving(self) -> bool
         ensures { result ≡ is_serving (view self).provider }
     {
-        let Some(provider) = self.provider else {
-            return false;
-        };
-        true
+        matches!(self.provider, Some(_))
     }
 
     /// "from at least 1 and end at most `outbound_next`": a sum that does not fit is past it too.
@@ -35,7 +35,7 @@ impl Session {
         if next.0 < message.from_seq_no.0 {
             return false;
         }
-        wide(message.count) <= next.0 - message.from_seq_no.0
+        message.count as u64 <= next.0 - message.from_seq_no.0
     }
 
     /// A RetransmitRequest (FIXP 4.6.1), in the order of 01, "Serving".
@@ -54,12 +54,10 @@ impl Session {
             let told = queue.ignore(MessageName::RetransmitRequest, REQUEST_TERMINATING);
             return self.stay(binding, told);
         }
-        let local_flow = self.local_flow;
-        if !local_flow.is_recoverable() {
+        if !self.local_flow.is_recoverable() {
             return self.violation(binding, queue, REQUEST_FLOW);
         }
-        let theirs = message.session_id;
-        if !theirs.same(self.id) {
+        if message.session_id != self.id {
             return self.refuse_retransmit(
                 binding,
                 queue,
@@ -86,8 +84,7 @@ impl Session {
                 REQUEST_EMPTY,
             );
         }
-        let config = self.config;
-        if config.max_retransmit_count < message.count {
+        if self.config.max_retransmit_count < message.count {
             return self.refuse_retransmit(
                 binding,
                 queue,
@@ -109,26 +106,24 @@ impl Session {
     }
 
     /// The request is taken: the host answers it in batches (FIXP 4.6.2).
-    fn serve(self, binding: Binding, queue: Outputs, message: RetransmitRequest) -> Step
+    fn serve(mut self, binding: Binding, queue: Outputs, message: RetransmitRequest) -> Step
         requires sess_wf { SessWf self }
         requires outs_wf { OutsWf queue }
         requires queue_len_bound { length (queue_of queue).outs + 1 ≤ 32 }
         ensures { StepIs result (queue_of queue) (serve message (view self) binding) }
     {
-        let mut session = self;
-        let request_timestamp = message.timestamp;
         let from = message.from_seq_no;
-        session.provider = Some(Provider {
-                request_timestamp,
-                from,
-                count: message.count,
-                sent: 0,
-            });
+        self.provider = Some(Provider {
+            request_timestamp: message.timestamp,
+            from,
+            count: message.count,
+            sent: 0,
+        });
         let told = queue.event(Event::RetransmitRequested {
             from,
             count: message.count,
         });
-        session.stay(binding, told)
+        self.stay(binding, told)
     }
 
     /// A request refused; the rejection carries the request's own id (FIXP 4.6.2.3).
@@ -146,12 +141,10 @@ impl Session {
         ensures { StepIs result (queue_of queue) (refuse_retransmit message code reason (view self) binding) }
     {
         let mut leaving = binding;
-        let session_id = message.session_id;
-        let request_timestamp = message.timestamp;
         let sent = queue.send_with(
             SessionMessage::RetransmitReject(RetransmitReject {
-                session_id,
-                request_timestamp,
+                session_id: message.session_id,
+                request_timestamp: message.timestamp,
                 code,
             }),
             reason,

@@ -1,12 +1,8 @@
 -- The rejection is told, its whole count consumed, and what is left asked for.
-use Rattle.std.specs.Prelude.{None}
 use native.Mathlib.Omega.{arith}
-use Prim.Native.Nat.{ℕ}
-use mathlib.Core.Path.{ap, sym, ◌∙◌}
-use Rattle.rules.specs.State.{Sess, with_outstanding, with_replay}
-use Rattle.rules.specs.Ending.{consumed}
+use mathlib.Core.Path.{ap, sym}
+use Rattle.rules.specs.State.{Sess}
 use Rattle.rules.specs.Asking.{recovered}
-use Rattle.session.specs.View.{view}
 use Rattle.session.proofs.Laws.{queued-length, said}
 use Rattle.session.proofs.Session.abandon.Goals as goal
 
@@ -21,5 +17,5 @@ recovered-requires-clause-queue_len_bound c = omega (arith, queued-length _ _ _ 
 
 pub returns : goal.returns
 returns c =
-    let e = ap (λ (n : ℕ). consumed n (with_replay None (with_outstanding None (view c.args.self)))) (sym c.wide.ensures) ∙ sym c.consume_missing-left.ensures.is in
+    let e = sym c.consume_missing-left.ensures.is in
     said _ _ _ _ _ c.event_quoting-told.ensures.is (rw (ap (λ (m : Sess). recovered c.args.now c.args.stamp m c.args.binding) e) c.recovered.ensures)

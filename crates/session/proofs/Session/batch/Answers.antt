@@ -6,4 +6,4 @@ use Rattle.session.proofs.Session.batch.Goals as goal
 
 pub returns : goal.returns
 unfolding batch saying
-returns c = rw (← c.provider_after-it.ensures, ← c.wide.ensures) (said _ _ _ _ _ c.send-sent.ensures.is c.reply.ensures)
+returns c = rw (← c.provider_after-it.ensures) (said _ _ _ _ _ c.send-sent.ensures.is c.reply.ensures)

@@ -1,5 +1,5 @@
 -- A request that is there takes its whole count out of the first gap.
-use Rattle.std.specs.Prelude.{Option, Some}
+use Rattle.std.specs.Prelude.{Option}
 use mathlib.Core.Path.{refl, ap}
 use Rattle.rules.specs.Names.{Outstanding}
 use Rattle.rules.specs.Asking.{completed_at}
@@ -10,4 +10,4 @@ pub returns-in_default : goal.returns-in_default
 returns-in_default c = rw (ap (λ (o : Option Outstanding). completed_at o (view c.args.self)) c.in_default.is) (record { wf = c.requires; is = refl })
 
 pub returns : goal.returns
-returns c = rw (ap (λ (o : Option Outstanding). completed_at o (view c.args.self)) c.in-Some.is, ← c.wide.ensures) c.consume_missing.ensures
+returns c = rw (ap (λ (o : Option Outstanding). completed_at o (view c.args.self)) c.in-Some.is) c.consume_missing.ensures

@@ -1,5 +1,5 @@
 -- Counted where a request is in flight and its count can grow.
-use Rattle.std.specs.Prelude.{Option, Some}
+use Rattle.std.specs.Prelude.{Option}
 use borrow.Author.Tests.{eq-eqb, ne_eqb}
 use mathlib.Core.Path.{refl, ap}
 use Rattle.rules.specs.Names.{Outstanding}

@@ -1,5 +1,5 @@
 -- A request that is there is marked interrupted.
-use Rattle.std.specs.Prelude.{Option, Some}
+use Rattle.std.specs.Prelude.{Option}
 use mathlib.Core.Path.{ap, sym, ◌∙◌}
 use Rattle.rules.specs.Names.{Outstanding}
 use Rattle.rules.specs.State.{with_outstanding}

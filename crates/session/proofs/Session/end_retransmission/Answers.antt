@@ -1,5 +1,5 @@
 -- The refusals in their order; then nothing is served.
-use Rattle.std.specs.Prelude.{Option, Some}
+use Rattle.std.specs.Prelude.{Option}
 use mathlib.Core.Path.{ap}
 use Rattle.rules.specs.Names.{Provider}
 use Rattle.rules.specs.Local.{serving_refused, end_refused, end_retransmission}

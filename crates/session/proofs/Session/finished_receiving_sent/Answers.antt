@@ -1,5 +1,5 @@
 -- The flag, where the peer has finished.
-use Rattle.std.specs.Prelude.{Option, Some}
+use Rattle.std.specs.Prelude.{Option}
 use mathlib.Core.Path.{ap, sym}
 use Rattle.rules.specs.Names.{PeerFinished}
 use Rattle.rules.specs.Ending.{sent_at}

@@ -1,5 +1,5 @@
 -- Only a number that is there can lie above.
-use Rattle.std.specs.Prelude.{Option, Some}
+use Rattle.std.specs.Prelude.{Option}
 use mathlib.Core.Path.{ap, sym}
 use Rattle.rules.specs.Names.{SeqNum}
 use Rattle.rules.specs.Finishing.{below}

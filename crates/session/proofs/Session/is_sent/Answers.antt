@@ -21,4 +21,4 @@ pub returns : goal.returns
 unfolding is_sent
 returns c =
     let h : 1 ≤ c.args.message.from_seq_no.0 = omega (arith, c.if-message-lt1.false) in
-    rw (le-leb _ _ h, c.wide.ensures) (leb-moved c.args.message.from_seq_no.0 c.args.self.outbound_next.0 c.args.message.count c.if-next-message.false)
+    rw (le-leb _ _ h) (leb-moved c.args.message.from_seq_no.0 c.args.self.outbound_next.0 c.args.message.count c.if-next-message.false)

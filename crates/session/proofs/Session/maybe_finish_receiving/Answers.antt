@@ -1,5 +1,5 @@
 -- The tests in the order of the rule, then FinishedReceiving goes out.
-use Rattle.std.specs.Prelude.{Option, Some}
+use Rattle.std.specs.Prelude.{Option}
 use mathlib.Core.Path.{ap}
 use Rattle.rules.specs.Names.{PeerFinished}
 use Rattle.rules.specs.State.{saying}

@@ -1,5 +1,5 @@
 -- Closing ignores it; else a batch in progress has it, or it is live.
-use Rattle.std.specs.Prelude.{Option, Some}
+use Rattle.std.specs.Prelude.{Option}
 use mathlib.Core.Path.{ap}
 use Rattle.types.specs.States.{with_received}
 use Rattle.rules.specs.Names.{Replay}

@@ -1,5 +1,4 @@
 -- The gap is told, then by the flow.
-use Rattle.std.specs.Prelude.{None}
 use native.Mathlib.Omega.{arith}
 use mathlib.Core.Path.{ap}
 use Rattle.rules.specs.Names.{FlowType}

@@ -1,5 +1,4 @@
 -- After FinishedSending it is a violation; then by the flow.
-use Rattle.std.specs.Prelude.{None}
 use mathlib.Core.Path.{ap}
 use Rattle.rules.specs.Names.{FlowType}
 use Rattle.rules.specs.Numbering.{live_on, on_live}

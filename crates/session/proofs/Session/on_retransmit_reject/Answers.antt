@@ -1,11 +1,11 @@
 -- Only the request with that stamp of our own session is over.
-use Rattle.std.specs.Prelude.{Option, Some}
+use Rattle.std.specs.Prelude.{Option}
 use borrow.Author.Tests.{eq-eqb, ne_eqb}
 use mathlib.Core.Path.{ap}
 use Rattle.rules.specs.Names.{Outstanding}
 use Rattle.rules.specs.Asking.{rejected_at, on_retransmit_reject}
 use Rattle.session.specs.View.{view}
-use Rattle.session.proofs.Laws.{is_false, is_true}
+use Rattle.session.proofs.Laws.{differs, agrees}
 use Rattle.session.proofs.Session.on_retransmit_reject.Goals as goal
 
 pub returns-in_default : goal.returns-in_default
@@ -16,10 +16,10 @@ pub returns-then-outstanding-message : goal.returns-then-outstanding-message
 unfolding on_retransmit_reject
 returns-then-outstanding-message c = rw (ap (λ (o : Option Outstanding). rejected_at o c.args.now c.args.stamp c.args.message c.args.text (view c.args.self) c.args.binding) c.in-Some.is, ne_eqb _ _ c.if-outstanding-message.true) c.ignore_reject-then-outstanding-message.ensures
 
-pub returns-then-not-same : goal.returns-then-not-same
+pub returns-then-ne : goal.returns-then-ne
 unfolding on_retransmit_reject
-returns-then-not-same c = rw (ap (λ (o : Option Outstanding). rejected_at o c.args.now c.args.stamp c.args.message c.args.text (view c.args.self) c.args.binding) c.in-Some.is, eq-eqb _ _ c.if-outstanding-message.false, is_false c.same.ensures c.if-not-same.true) c.ignore_reject-then-not-same.ensures
+returns-then-ne c = rw (ap (λ (o : Option Outstanding). rejected_at o c.args.now c.args.stamp c.args.message c.args.text (view c.args.self) c.args.binding) c.in-Some.is, eq-eqb _ _ c.if-outstanding-message.false, differs c.ne.ensures c.if-ne.true) c.ignore_reject-then-ne.ensures
 
 pub returns : goal.returns
 unfolding on_retransmit_reject
-returns c = rw (ap (λ (o : Option Outstanding). rejected_at o c.args.now c.args.stamp c.args.message c.args.text (view c.args.self) c.args.binding) c.in-Some.is, eq-eqb _ _ c.if-outstanding-message.false, is_true c.same.ensures c.if-not-same.false) c.abandon.ensures
+returns c = rw (ap (λ (o : Option Outstanding). rejected_at o c.args.now c.args.stamp c.args.message c.args.text (view c.args.self) c.args.binding) c.in-Some.is, eq-eqb _ _ c.if-outstanding-message.false, agrees c.ne.ensures c.if-ne.false) c.abandon.ensures

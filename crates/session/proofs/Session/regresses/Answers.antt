@@ -16,8 +16,8 @@ returns-then-not-is_sequenced c = rw (c.if-self.false, is_false c.is_sequenced.e
 pub returns-in_default : goal.returns-in_default
 returns-in_default c = rw (c.if-self.false, is_true c.is_sequenced.ensures c.if-not-is_sequenced.false, ap (λ (n : Option SeqNum). lower_than n (view c.args.self).inbound_next) c.in_default.is)
 
-pub returns-in_default-it : goal.returns-in_default-it
-returns-in_default-it c = rw (c.if-self.false, is_true c.is_sequenced.ensures c.if-not-is_sequenced.false, ap (λ (n : Option SeqNum). lower_than n (view c.args.self).inbound_next) c.in-Some.is, ap (λ (n : Option SeqNum). lower_than (Some c.in-Some.number) n) c.in_default-it.is)
+pub returns-in_default-inbound_next : goal.returns-in_default-inbound_next
+returns-in_default-inbound_next c = rw (c.if-self.false, is_true c.is_sequenced.ensures c.if-not-is_sequenced.false, ap (λ (n : Option SeqNum). lower_than n (view c.args.self).inbound_next) c.in-Some.is, ap (λ (n : Option SeqNum). lower_than (Some c.in-Some.number) n) c.in_default-inbound_next.is)
 
 pub returns : goal.returns
-returns c = rw (c.if-self.false, is_true c.is_sequenced.ensures c.if-not-is_sequenced.false, ap (λ (n : Option SeqNum). lower_than n (view c.args.self).inbound_next) c.in-Some.is, ap (λ (n : Option SeqNum). lower_than (Some c.in-Some.number) n) c.in-Some-it.is)
+returns c = rw (c.if-self.false, is_true c.is_sequenced.ensures c.if-not-is_sequenced.false, ap (λ (n : Option SeqNum). lower_than n (view c.args.self).inbound_next) c.in-Some.is, ap (λ (n : Option SeqNum). lower_than (Some c.in-Some.number) n) c.in-Some-inbound_next.is)

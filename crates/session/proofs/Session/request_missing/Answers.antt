@@ -1,5 +1,4 @@
 -- The tests in the order of the rule, then the first gap.
-use Rattle.std.specs.Prelude.{Some}
 use borrow.Author.Tests.{eq-eqb, ne_eqb, le-leb, lt-leb}
 use mathlib.Core.Path.{sym, ◌∙◌}
 use Rattle.rules.specs.Asking.{request_missing}

@@ -1,5 +1,5 @@
 -- The refusals in their order; then the header of the batch goes out.
-use Rattle.std.specs.Prelude.{Option, Some}
+use Rattle.std.specs.Prelude.{Option}
 use borrow.Author.Tests.{le-leb, lt-leb}
 use native.Mathlib.Omega.{arith}
 use Prim.Native.Nat.{◌≤◌, ◌<◌, ◌+◌}
@@ -27,11 +27,11 @@ pub returns-then-remaining-count : goal.returns-then-remaining-count
 unfolding retransmit_refused
 returns-then-remaining-count c = rw (is_true c.is_established.ensures c.if-not-is_established.false, ap (λ (v : Option Provider). batch_refused v c.args.count) c.in-Some.is, le-leb _ _ c.if-provider.false, lt-leb _ _ c.if-remaining-count.true) c.refuse-then-remaining-count.ensures
 
-pub returns-then-wide-provider : goal.returns-then-wide-provider
+pub returns-then-provider-2 : goal.returns-then-provider-2
 unfolding retransmit_refused
-returns-then-wide-provider c =
-    let k : all_ones < c.in-Some.provider.from.0 + c.in-Some.provider.sent = omega (arith, c.if-wide-provider.true, c.wide.ensures) in
-    rw (is_true c.is_established.ensures c.if-not-is_established.false, ap (λ (v : Option Provider). batch_refused v c.args.count) c.in-Some.is, le-leb _ _ c.if-provider.false, le-leb _ _ c.if-remaining-count.false, lt-leb _ _ k) c.refuse-then-wide-provider.ensures
+returns-then-provider-2 c =
+    let k : all_ones < c.in-Some.provider.from.0 + c.in-Some.provider.sent = omega (arith, c.if-provider-2.true) in
+    rw (is_true c.is_established.ensures c.if-not-is_established.false, ap (λ (v : Option Provider). batch_refused v c.args.count) c.in-Some.is, le-leb _ _ c.if-provider.false, le-leb _ _ c.if-remaining-count.false, lt-leb _ _ k) c.refuse-then-provider-2.ensures
 
 pub batch-requires-clause-sess_wf : goal.batch-requires-clause-sess_wf
 batch-requires-clause-sess_wf c = c.requires.sess_wf
@@ -46,10 +46,10 @@ pub batch-requires-clause-count_bound : goal.batch-requires-clause-count_bound
 batch-requires-clause-count_bound c = omega (arith, c.if-provider.false, c.if-remaining-count.false)
 
 pub batch-requires-clause-sent_bound : goal.batch-requires-clause-sent_bound
-batch-requires-clause-sent_bound c = omega (arith, c.if-wide-provider.false, c.wide.ensures)
+batch-requires-clause-sent_bound c = omega (arith, c.if-provider-2.false)
 
 pub returns : goal.returns
 unfolding retransmit_refused retransmit
 returns c =
-    let k : c.in-Some.provider.from.0 + c.in-Some.provider.sent ≤ all_ones = omega (arith, c.if-wide-provider.false, c.wide.ensures) in
+    let k : c.in-Some.provider.from.0 + c.in-Some.provider.sent ≤ all_ones = omega (arith, c.if-provider-2.false) in
     rw (is_true c.is_established.ensures c.if-not-is_established.false, ap (λ (v : Option Provider). batch_refused v c.args.count) c.in-Some.is, le-leb _ _ c.if-provider.false, le-leb _ _ c.if-remaining-count.false, le-leb _ _ k, ap (λ (v : Option Provider). batch_at v c.args.now c.args.count (view c.args.self) c.args.binding) c.in-Some.is) c.batch.ensures

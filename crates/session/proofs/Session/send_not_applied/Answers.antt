@@ -1,5 +1,4 @@
 -- Only an Established binding sends, and only a flow that carries application messages.
-use Rattle.std.specs.Prelude.{None}
 use mathlib.Core.Path.{ap}
 use Rattle.rules.specs.Names.{FlowType}
 use Rattle.rules.specs.State.{saying}

@@ -1,5 +1,5 @@
 -- Only a request in flight whose stall was not reported has a deadline.
-use Rattle.std.specs.Prelude.{Option, Some}
+use Rattle.std.specs.Prelude.{Option}
 use mathlib.Core.Path.{ap, sym}
 use Rattle.rules.specs.Names.{Outstanding}
 use Rattle.rules.specs.Deadlines.{stall_at, stall_deadline}

@@ -1,5 +1,5 @@
 -- Only a stall that is due is dealt with.
-use Rattle.std.specs.Prelude.{Option, Some}
+use Rattle.std.specs.Prelude.{Option}
 use mathlib.Core.Path.{ap}
 use Rattle.rules.specs.Names.{Outstanding}
 use Rattle.rules.specs.Deadlines.{stall_of, stall_if_due}

@@ -1,5 +1,5 @@
 -- The wait for a Sequence ends, and a batch in progress is cut off.
-use Rattle.std.specs.Prelude.{Option, Some}
+use Rattle.std.specs.Prelude.{Option}
 use mathlib.Core.Path.{refl, ap}
 use mathlib.Core.Bool.{false}
 use Rattle.rules.specs.Names.{Replay}

@@ -1,5 +1,5 @@
 -- A deadline that is absent is never the earlier one.
-use Rattle.std.specs.Prelude.{Option, Some}
+use Rattle.std.specs.Prelude.{Option}
 use borrow.Author.Tests.{le-leb, lt-leb}
 use mathlib.Core.Path.{ap, sym, ◌∙◌}
 use Rattle.rules.specs.Names.{Instant}

@@ -1,5 +1,5 @@
 -- Only a deadline that is there can be due.
-use Rattle.std.specs.Prelude.{Option, Some}
+use Rattle.std.specs.Prelude.{Option}
 use mathlib.Core.Path.{ap, sym}
 use Rattle.rules.specs.Names.{Instant}
 use Rattle.rules.specs.Deadlines.{is_due}
