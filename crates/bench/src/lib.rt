@@ -12,7 +12,7 @@ use types::config::{FixpConfig, RetransmitStallPolicy};
 use types::ids::{ALL_ONES, FlowType, Instant, Nanotime, SeqNum, SessionId};
 use types::messages::{PeerMessage, Retransmission, RetransmitRequest, Sequence, SessionMessage};
 use types::output::{Event, Output, Said};
-use types::parts::{Gap, Outstanding, Provider, Replay};
+use types::parts::{Outstanding, Provider, Replay};
 use types::reasons::Reason;
 
 /// A record, its link taken apart; `bound` says that it is bound.

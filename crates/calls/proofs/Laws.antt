@@ -32,7 +32,8 @@ use Rattle.queue.proofs.Laws.{and_left, and_right, sound-outs, outs-length}
 use Rattle.session.specs.View.{SessWf, StepIs, After, LocalIs}
 use Rattle.session.specs.declared.Session.{Session}
 use Rattle.session.specs.declared.Step.{Step}
-use Rattle.calls.specs.View.{world_of, good_record, Done, Unchanged, AnsweredBy, of_good, called_of, is_refused}
+use Rattle.calls.specs.View.{world_of, good_record, Done, Unchanged, AnsweredBy, of_good, called_of}
+use Rattle.types.specs.Answers.{is_refused}
 use Rattle.calls.specs.declared.Called.{Called}
 
 -- ---- the record

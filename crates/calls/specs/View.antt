@@ -1,7 +1,7 @@
 -- What a record and an answered call stand for in the rule book, and what each call promises.
 use Rattle.std.specs.Prelude.{◌≡◌, Bool, true, false, ◌&&◌, None, Ok, Err}
 use Rattle.types.specs.Reasons.{reason_fits}
-use Rattle.rules.specs.Names.{Link, Reason, Answer, Refusal, FixpConfig}
+use Rattle.rules.specs.Names.{Link, Reason, Refusal, FixpConfig}
 use Rattle.rules.specs.Names.policy
 use Rattle.rules.specs.Names.verdict
 use Rattle.rules.specs.Names.refusal
@@ -55,13 +55,6 @@ Answered c r s l q = AnsweredBy (of_good (good_record s l q) (wrong c (world_of 
 -- a step's parts, its binding kept or dropped
 abbrev pub called_of : Step → Reason → Called
 called_of t reason = record { session = t.session; link = link_after t.bound t.binding reason; queue = t.queue; answer = t.answer }
-
-abbrev pub is_refused : Answer → Bool
-is_refused (Ok verdict.Done) = false
-is_refused (Ok (verdict.Delivered d)) = false
-is_refused (Ok (verdict.Sent n)) = false
-is_refused (Ok (verdict.Batch b)) = false
-is_refused (Err r) = true
 
 -- ---- a new session
 -- of the session that stands in for one that was not opened

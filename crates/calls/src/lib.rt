@@ -5,14 +5,16 @@ ghost use Rattle.std.specs.Prelude.{◌≡◌};
 ghost use Rattle.queue.specs.View.{queue_of, OutsWf};
 ghost use Rattle.rules.specs.Calls.{config_fits, has_room, unlinked, opening, opened};
 ghost use Rattle.rules.specs.Calls.{bind_call, release_call, peer_call, application_call, send_call, terminate_call, retransmit_call, reject_call, end_call, timeout_call};
-ghost use Rattle.calls.specs.View.{good_record, Answered, called_of, is_refused, Unchanged, Done, least_config, opened_as};
+ghost use Rattle.calls.specs.View.{good_record, Answered, called_of, Unchanged, Done, least_config, opened_as};
 
 use queue::Outputs;
 use session::{Session, Step};
-use types::answers::{Answer, Refusal};
-use types::binding::{Link, Binding};
+use types::answers::{Refusal, Verdict};
+use types::binding::Link;
 use types::config::{FixpConfig, RetransmitStallPolicy};
-use types::ids::{FlowType, Instant, SeqNum, Nanotime, RetransmitRejectCode, SessionId, TerminationCode};
+use types::ids::{
+    FlowType, Instant, Nanotime, RetransmitRejectCode, SeqNum, SessionId, TerminationCode,
+};
 use types::messages::PeerMessage;
 use types::reasons::Reason;
 
@@ -22,7 +24,7 @@ pub struct Called {
     pub session: Session,
     pub link: Link,
     pub queue: Outputs,
-    pub answer: Answer,
+    pub answer: Result<Verdict, Refusal>,
 }
 
 /// 2: `max_gap_len` or `max_retransmit_count` 0, or `max_pending_gaps` 0 or over 64, is out of range.
@@ -45,16 +47,13 @@ pub fn config_fits(config: FixpConfig) -> bool
 pub fn is_good(session: Session, link: Link, queue: Outputs) -> bool
     ensures { result ≡ good_record session link queue }
 {
-    let config = session.config;
-    if !config_fits(config) {
+    if !config_fits(session.config) {
         return false;
     }
-    let gaps = session.gaps;
-    if !gaps.sound() {
+    if !session.gaps.sound() {
         return false;
     }
-    let reason = link.reason;
-    if !reason.fits() {
+    if !link.reason.fits() {
         return false;
     }
     queue.sound()
@@ -98,8 +97,7 @@ fn answered(step: Step, reason: Reason) -> Called
     let session = step.session;
     let queue = step.queue;
     let answer = step.answer;
-    let bound = step.bound;
-    if !bound.is_stay() {
+    if !step.bound.is_stay() {
         let link = unlink();
         return Called {
             session,
@@ -108,9 +106,8 @@ fn answered(step: Step, reason: Reason) -> Called
             answer,
         };
     }
-    let binding = step.binding;
     let link = Link {
-        binding: Some(binding),
+        binding: Some(step.binding),
         reason,
     };
     Called {
@@ -118,18 +115,6 @@ fn answered(step: Step, reason: Reason) -> Called
         link,
         queue,
         answer,
-    }
-}
-
-fn is_refused(answer: Answer) -> bool
-    ensures { result ≡ is_refused answer }
-{
-    match answer {
-        Ok(Verdict::Done) => false,
-        Ok(Verdict::Delivered(delivery)) => false,
-        Ok(Verdict::Sent(seq)) => false,
-        Ok(Verdict::Batch(batch)) => false,
-        Err(refusal) => true,
     }
 }
 
@@ -225,9 +210,8 @@ pub fn on_application(
     if !has_room(queue) {
         return refused(session, link, queue, Refusal::OutputFull);
     }
-    let reason = link.reason;
     let step = session.on_application(binding, queue, now, stamp);
-    answered(step, reason)
+    answered(step, link.reason)
 }
 
 /// Runs the timers that are due: 1, 3, 7.
@@ -269,7 +253,7 @@ pub fn send_application(session: Session, link: Link, queue: Outputs, now: Insta
     }
     let step = session.send_application(binding, queue, now);
     let answer = step.answer;
-    if is_refused(answer) {
+    if answer.is_err() {
         return Called {
             session,
             link,
@@ -277,8 +261,7 @@ pub fn send_application(session: Session, link: Link, queue: Outputs, now: Insta
             answer,
         };
     }
-    let reason = link.reason;
-    answered(step, reason)
+    answered(step, link.reason)
 }
 
 /// Starts to unbind; the reason stands beside the binding until the answer: 1, 3, 7, then 8, 14.
@@ -303,7 +286,7 @@ pub fn terminate(
     }
     let step = session.terminate(binding, queue, code, text, now);
     let answer = step.answer;
-    if is_refused(answer) {
+    if answer.is_err() {
         return Called {
             session,
             link,
@@ -332,7 +315,7 @@ pub fn retransmit(session: Session, link: Link, queue: Outputs, now: Instant, co
     }
     let step = session.retransmit(binding, queue, count, now);
     let answer = step.answer;
-    if is_refused(answer) {
+    if answer.is_err() {
         return Called {
             session,
             link,
@@ -340,8 +323,7 @@ pub fn retransmit(session: Session, link: Link, queue: Outputs, now: Instant, co
             answer,
         };
     }
-    let reason = link.reason;
-    answered(step, reason)
+    answered(step, link.reason)
 }
 
 /// Refuses the request being served: 1, 3, 7, then 8, 14, 12.
@@ -365,7 +347,7 @@ pub fn reject_retransmit_request(
     }
     let step = session.reject_retransmit_request(binding, queue, code, text);
     let answer = step.answer;
-    if is_refused(answer) {
+    if answer.is_err() {
         return Called {
             session,
             link,
@@ -373,8 +355,7 @@ pub fn reject_retransmit_request(
             answer,
         };
     }
-    let reason = link.reason;
-    answered(step, reason)
+    answered(step, link.reason)
 }
 
 /// Stops serving before all was sent: 1, 3, then 8, 12.
@@ -389,7 +370,7 @@ pub fn end_retransmission(session: Session, link: Link, queue: Outputs) -> Calle
     };
     let step = session.end_retransmission(binding, queue);
     let answer = step.answer;
-    if is_refused(answer) {
+    if answer.is_err() {
         return Called {
             session,
             link,
@@ -397,8 +378,7 @@ pub fn end_retransmission(session: Session, link: Link, queue: Outputs) -> Calle
             answer,
         };
     }
-    let reason = link.reason;
-    answered(step, reason)
+    answered(step, link.reason)
 }
 
 /// The session that stands in for one that was not opened.

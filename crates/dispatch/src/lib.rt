@@ -3,8 +3,9 @@
 
 ghost use Rattle.calls.specs.View.{Answered};
 ghost use Rattle.dispatch.specs.Entries.{call_of};
+ghost use Rattle.lent.specs.View.{called};
 
-use calls::Called;
+use lent::Handed;
 use queue::Outputs;
 use session::Session;
 use trace::records::Entry;
@@ -14,52 +15,41 @@ use types::reasons::Reason;
 
 /// The call of an entry. An open or a malformed one is no call on a session: its caller has turned it away, and it releases.
 pub fn run(
+    queue: &mut Outputs,
     session: Session,
     link: Link,
-    queue: Outputs,
     entry: Entry,
     now: Instant,
     stamp: Nanotime,
     text: Reason,
-) -> Called
-    ensures { Answered (call_of entry now stamp text) result session link queue }
+) -> Handed
+    ensures { Answered (call_of entry now stamp text) (called result queue.new) session link queue.old }
 {
     match entry {
-        Entry::Open {
-            id,
-            local_flow,
-            remote_flow,
-            config,
-        } => lent::held::release(queue, session, link),
+        Entry::Open { .. } | Entry::Release | Entry::Malformed => {
+            lent::release(queue, session, link)
+        }
         Entry::Bind {
             local_keepalive,
             remote_keepalive,
             next,
-        } => {
-            lent::held::bind(
-                queue,
-                session,
-                link,
-                now,
-                stamp,
-                local_keepalive,
-                remote_keepalive,
-                next,
-            )
-        }
-        Entry::Release => lent::held::release(queue, session, link),
-        Entry::Application => lent::held::on_application(queue, session, link, now, stamp),
-        Entry::Peer(message) => {
-            lent::held::on_peer(queue, session, link, now, stamp, message, text)
-        }
-        Entry::Send => lent::held::send_application(queue, session, link, now),
-        Entry::Terminate(code) => lent::held::terminate(queue, session, link, now, code, text),
-        Entry::Retransmit(count) => lent::held::retransmit(queue, session, link, now, count),
-        Entry::Reject(code) => {
-            lent::held::reject_retransmit_request(queue, session, link, code, text)
-        }
-        Entry::End => lent::held::end_retransmission(queue, session, link),
-        Entry::Timeout => lent::held::on_timeout(queue, session, link, now, stamp),
-        Entry::Malformed => lent::held::release(queue, session, link),
+        } => lent::bind(
+            queue,
+            session,
+            link,
+            now,
+            stamp,
+            local_keepalive,
+            remote_keepalive,
+            next,
+        ),
+        Entry::Application => lent::on_application(queue, session, link, now, stamp),
+        Entry::Peer(message) => lent::on_peer(queue, session, link, now, stamp, message, text),
+        Entry::Send => lent::send_application(queue, session, link, now),
+        Entry::Terminate(code) => lent::terminate(queue, session, link, now, code, text),
+        Entry::Retransmit(count) => lent::retransmit(queue, session, link, now, count),
+        Entry::Reject(code) => lent::reject_retransmit_request(queue, session, link, code, text),
+        Entry::End => lent::end_retransmission(queue, session, link),
+        Entry::Timeout => lent::on_timeout(queue, session, link, now, stamp),
     }
 }

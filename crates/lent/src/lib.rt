@@ -1,5 +1,5 @@
 //! The queue lent: the calls, and the queue's own functions, in the form that fills the caller's queue where it stands (01, "Which shape goes where").
-//! Each takes the queue out, goes through the by-value form and stores the queue back; no proof below is done twice.
+//! Each goes through the by-value form, and stores the queue that it leaves.
 #![tactic(auto)]
 
 ghost use Rattle.std.specs.Prelude.{◌<◌, ◌∷◌, [], length};
@@ -11,30 +11,36 @@ ghost use Rattle.queue.specs.View.{queue_of, OutsWf, QueueIs, PolledIs};
 ghost use Rattle.calls.specs.View.{Answered};
 ghost use Rattle.lent.specs.View.{called, polled};
 
+use calls::Called;
 use queue::Outputs;
 use session::Session;
-use types::answers::Answer;
+use types::answers::{Refusal, Verdict};
 use types::binding::Link;
-use types::ids::{Instant, SeqNum, Nanotime, RetransmitRejectCode, TerminationCode};
+use types::ids::{Instant, Nanotime, RetransmitRejectCode, SeqNum, TerminationCode};
 use types::messages::{PeerMessage, SessionMessage};
 use types::output::{Event, Output};
 use types::reasons::Reason;
-
-pub mod held;
 
 /// What a call hands back: all but the queue, which the caller has.
 #[derive(Clone, Copy)]
 pub struct Handed {
     pub session: Session,
     pub link: Link,
-    pub answer: Answer,
+    pub answer: Result<Verdict, Refusal>,
 }
 
-/// What a poll hands back: the output, if there was one.
-#[derive(Clone, Copy)]
-pub struct Taken {
-    pub output: Output,
-    pub some: bool,
+/// Makes a by-value call with the queue that is lent, and stores the queue that it leaves.
+fn lend<F: FnOnce(Outputs) -> Called>(q: &mut Outputs, call: F) -> Handed
+    requires { F.pre call q.old }
+    ensures { F.post call q.old (called result q.new) }
+{
+    let done = call(*q);
+    *q = done.queue;
+    Handed {
+        session: done.session,
+        link: done.link,
+        answer: done.answer,
+    }
 }
 
 /// Adds an output at the back.
@@ -43,8 +49,7 @@ pub fn push(q: &mut Outputs, o: Output)
     requires q_len_bound { length (queue_of q.old).outs < 32 }
     ensures { QueueIs q.new (queued (queue_of q.old) (o ∷ [])) }
 {
-    let t = *q;
-    *q = t.push(o);
+    *q = q.push(o);
 }
 
 /// A session message to the peer, with no reason.
@@ -53,8 +58,7 @@ pub fn send(q: &mut Outputs, message: SessionMessage)
     requires q_len_bound { length (queue_of q.old).outs < 32 }
     ensures { QueueIs q.new (queued (queue_of q.old) (send message ∷ [])) }
 {
-    let t = *q;
-    *q = t.send(message);
+    *q = q.send(message);
 }
 
 /// An event for the host, with no reason.
@@ -63,8 +67,7 @@ pub fn event(q: &mut Outputs, event: Event)
     requires q_len_bound { length (queue_of q.old).outs < 32 }
     ensures { QueueIs q.new (queued (queue_of q.old) (Rattle.rules.specs.Outputs.event event ∷ [])) }
 {
-    let t = *q;
-    *q = t.event(event);
+    *q = q.event(event);
 }
 
 /// Asks the host to close the transport, and sets the closing flag.
@@ -73,8 +76,7 @@ pub fn close_transport(q: &mut Outputs)
     requires q_len_bound { length (queue_of q.old).outs < 32 }
     ensures { QueueIs q.new (queued (queue_of q.old) (close_transport ∷ [])) }
 {
-    let t = *q;
-    *q = t.close_transport();
+    *q = q.close_transport();
 }
 
 /// The host reported the transport closed.
@@ -82,22 +84,17 @@ pub fn transport_closed(q: &mut Outputs)
     requires { OutsWf q.old }
     ensures { QueueIs q.new (transport_closed (queue_of q.old)) }
 {
-    let t = *q;
-    *q = t.transport_closed();
+    *q = q.transport_closed();
 }
 
 /// The first output goes to the host.
-pub fn poll_output(q: &mut Outputs) -> Taken
+pub fn poll_output(q: &mut Outputs) -> Option<Output>
     requires { OutsWf q.old }
     ensures { PolledIs (polled result q.new) (queue_of q.old) }
 {
-    let t = *q;
-    let r = t.poll_output();
-    *q = r.queue;
-    Taken {
-        output: r.output,
-        some: r.some,
-    }
+    let polled = q.poll_output();
+    *q = polled.queue;
+    polled.output
 }
 
 /// Binds to a transport: 1, 4, 7.
@@ -113,37 +110,26 @@ pub fn bind(
 ) -> Handed
     ensures { Answered (bind_call now stamp local_keepalive remote_keepalive next) (called result q.new) session link q.old }
 {
-    let t = *q;
-    let r = calls::bind(
-        session,
-        link,
-        t,
-        now,
-        stamp,
-        local_keepalive,
-        remote_keepalive,
-        next,
-    );
-    *q = r.queue;
-    Handed {
-        session: r.session,
-        link: r.link,
-        answer: r.answer,
-    }
+    lend(
+        q,
+        |queue| calls::bind(
+            session,
+            link,
+            queue,
+            now,
+            stamp,
+            local_keepalive,
+            remote_keepalive,
+            next,
+        ),
+    )
 }
 
 /// Releases the transport, bound or not: 1.
 pub fn release(q: &mut Outputs, session: Session, link: Link) -> Handed
     ensures { Answered release_call (called result q.new) session link q.old }
 {
-    let t = *q;
-    let r = calls::release(session, link, t);
-    *q = r.queue;
-    Handed {
-        session: r.session,
-        link: r.link,
-        answer: r.answer,
-    }
+    lend(q, |queue| calls::release(session, link, queue))
 }
 
 /// A session message of the peer, with its reason beside it: 1, 3, 5, 7.
@@ -158,14 +144,10 @@ pub fn on_peer(
 ) -> Handed
     ensures { Answered (peer_call now stamp message text) (called result q.new) session link q.old }
 {
-    let t = *q;
-    let r = calls::on_peer(session, link, t, now, stamp, message, text);
-    *q = r.queue;
-    Handed {
-        session: r.session,
-        link: r.link,
-        answer: r.answer,
-    }
+    lend(
+        q,
+        |queue| calls::on_peer(session, link, queue, now, stamp, message, text),
+    )
 }
 
 /// An application message of the peer: 1, 3, 7.
@@ -178,14 +160,10 @@ pub fn on_application(
 ) -> Handed
     ensures { Answered (application_call now stamp) (called result q.new) session link q.old }
 {
-    let t = *q;
-    let r = calls::on_application(session, link, t, now, stamp);
-    *q = r.queue;
-    Handed {
-        session: r.session,
-        link: r.link,
-        answer: r.answer,
-    }
+    lend(
+        q,
+        |queue| calls::on_application(session, link, queue, now, stamp),
+    )
 }
 
 /// Runs the timers that are due: 1, 3, 7.
@@ -198,28 +176,20 @@ pub fn on_timeout(
 ) -> Handed
     ensures { Answered (timeout_call now stamp) (called result q.new) session link q.old }
 {
-    let t = *q;
-    let r = calls::on_timeout(session, link, t, now, stamp);
-    *q = r.queue;
-    Handed {
-        session: r.session,
-        link: r.link,
-        answer: r.answer,
-    }
+    lend(
+        q,
+        |queue| calls::on_timeout(session, link, queue, now, stamp),
+    )
 }
 
 /// Numbers an application message about to be sent: 1, 3, 7, then 8, 9, 10 or 11.
 pub fn send_application(q: &mut Outputs, session: Session, link: Link, now: Instant) -> Handed
     ensures { Answered (send_call now) (called result q.new) session link q.old }
 {
-    let t = *q;
-    let r = calls::send_application(session, link, t, now);
-    *q = r.queue;
-    Handed {
-        session: r.session,
-        link: r.link,
-        answer: r.answer,
-    }
+    lend(
+        q,
+        |queue| calls::send_application(session, link, queue, now),
+    )
 }
 
 /// Starts to unbind: 1, 3, 7, then 8, 14.
@@ -233,28 +203,20 @@ pub fn terminate(
 ) -> Handed
     ensures { Answered (terminate_call now code text) (called result q.new) session link q.old }
 {
-    let t = *q;
-    let r = calls::terminate(session, link, t, now, code, text);
-    *q = r.queue;
-    Handed {
-        session: r.session,
-        link: r.link,
-        answer: r.answer,
-    }
+    lend(
+        q,
+        |queue| calls::terminate(session, link, queue, now, code, text),
+    )
 }
 
 /// The next batch of the request being served: 1, 3, 6, 7, then 8, 12, 13, 11.
 pub fn retransmit(q: &mut Outputs, session: Session, link: Link, now: Instant, count: u32) -> Handed
     ensures { Answered (retransmit_call now count) (called result q.new) session link q.old }
 {
-    let t = *q;
-    let r = calls::retransmit(session, link, t, now, count);
-    *q = r.queue;
-    Handed {
-        session: r.session,
-        link: r.link,
-        answer: r.answer,
-    }
+    lend(
+        q,
+        |queue| calls::retransmit(session, link, queue, now, count),
+    )
 }
 
 /// Refuses the request being served: 1, 3, 7, then 8, 14, 12.
@@ -267,26 +229,15 @@ pub fn reject_retransmit_request(
 ) -> Handed
     ensures { Answered (reject_call code text) (called result q.new) session link q.old }
 {
-    let t = *q;
-    let r = calls::reject_retransmit_request(session, link, t, code, text);
-    *q = r.queue;
-    Handed {
-        session: r.session,
-        link: r.link,
-        answer: r.answer,
-    }
+    lend(
+        q,
+        |queue| calls::reject_retransmit_request(session, link, queue, code, text),
+    )
 }
 
 /// Stops serving before all was sent: 1, 3, then 8, 12.
 pub fn end_retransmission(q: &mut Outputs, session: Session, link: Link) -> Handed
     ensures { Answered end_call (called result q.new) session link q.old }
 {
-    let t = *q;
-    let r = calls::end_retransmission(session, link, t);
-    *q = r.queue;
-    Handed {
-        session: r.session,
-        link: r.link,
-        answer: r.answer,
-    }
+    lend(q, |queue| calls::end_retransmission(session, link, queue))
 }

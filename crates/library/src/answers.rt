@@ -7,7 +7,7 @@ ghost use Rattle.library.specs.Answers.{numbered_reply, carrying_reply, refusal_
 use crate::codes::{operation_out, status_out};
 use crate::mirror::{Number, Reply};
 use crate::parts::{no_number, number, seq_out};
-use types::answers::{Answer, Delivery, Refusal};
+use types::answers::{Delivery, Refusal, Verdict};
 
 /// An answer of that kind, of which nothing else speaks.
 fn plain(kind: u8) -> Reply
@@ -104,7 +104,7 @@ fn delivery_out(delivery: Delivery) -> Reply
     }
 }
 
-pub fn answer_out(answer: Answer) -> Reply
+pub fn answer_out(answer: Result<Verdict, Refusal>) -> Reply
     ensures { result ≡ answer_out answer }
 {
     match answer {

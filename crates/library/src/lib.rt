@@ -18,8 +18,8 @@ use calls::Called;
 use queue::Outputs;
 use session::Session;
 use trace::records::Entry;
-use types::answers::{Answer, Refusal};
-use types::binding::{Link, Binding};
+use types::answers::{Refusal, Verdict};
+use types::binding::Link;
 use types::ids::{Instant, Nanotime, SeqNum};
 
 

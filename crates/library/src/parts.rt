@@ -7,7 +7,7 @@ ghost use Rattle.library.specs.Parts.{state_in, binding_in, bond_of, no_bond, bi
 use crate::codes::{flow_in, flow_out, policy_in, policy_out, termination_in, termination_out};
 use crate::mirror::{Asked, Batch, Bond, Finished, Id, Number, Served, Settings, Text};
 use types::binding::{BindState, Binding};
-use types::config::{FixpConfig};
+use types::config::FixpConfig;
 use types::ids::{Instant, Nanotime, SeqNum, SessionId};
 use types::parts::{Outstanding, PeerFinished, Provider, Replay};
 use types::reasons::Reason;

@@ -13,8 +13,8 @@ ghost use Rattle.reading.specs.Reading.{no_output, PolledBy, ClosedBy, id_if, fl
 use calls::is_good;
 use queue::Outputs;
 use session::Session;
-use types::answers::{Answer, Refusal, SessionStatus};
-use types::binding::{Link, Binding};
+use types::answers::{Refusal, SessionStatus, Verdict};
+use types::binding::Link;
 use types::ids::{FlowType, Instant, SeqNum, SessionId};
 use types::output::{Output, Said};
 use types::reasons::Reason;
@@ -39,7 +39,7 @@ pub struct Polled {
 #[derive(Clone, Copy)]
 pub struct Closed {
     pub queue: Outputs,
-    pub answer: Answer,
+    pub answer: Result<Verdict, Refusal>,
 }
 
 #[derive(Clone, Copy)]

@@ -16,9 +16,9 @@ use calls::Called;
 use session::Session;
 use std::io::{self, Read};
 use trace::records::Entry;
-use types::answers::{Answer, Delivery, SessionStatus};
-use types::binding::{Link, Binding};
-use types::ids::{SeqNum};
+use types::answers::{Delivery, Refusal, SessionStatus, Verdict};
+use types::binding::Link;
+use types::ids::SeqNum;
 
 pub mod missing;
 pub mod ordinary;
@@ -85,7 +85,7 @@ fn line_of(
     out: &mut [u8],
     at: usize,
     index: u64,
-    answer: Answer,
+    answer: Result<Verdict, Refusal>,
     session: Session,
     link: Link,
     outputs: u64,
@@ -185,7 +185,7 @@ fn run_refused(s: &[u8], start: usize, out: &mut [u8], at: usize) -> usize
     trace::text::end_line(out, at, 0)
 }
 
-fn is_refused(answer: Answer) -> bool
+fn is_refused(answer: Result<Verdict, Refusal>) -> bool
     ensures { result ≡ is_refused answer }
 {
     match answer {

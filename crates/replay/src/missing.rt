@@ -7,7 +7,7 @@ use rings::gaps::MAX_GAPS;
 use rings::ring::Ring;
 use rings::gaps::Gaps;
 use types::ids::ALL_ONES;
-use types::parts::{Gap};
+use types::parts::Gap;
 
 /// The length of a gap.
 fn length_of(gap: Gap) -> u64

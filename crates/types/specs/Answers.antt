@@ -1,5 +1,6 @@
 -- What a call answers: a verdict, or the refusal.
-use Rattle.std.specs.Prelude.{Bool, true, false, Result, Ok, Err}
+use Rattle.std.specs.Prelude.{Bool, Result}
+use Rattle.std.specs.Result.{is_err}
 use Rattle.types.specs.declared.answers.Verdict.{Verdict}
 use Rattle.types.specs.declared.answers.Refusal.{Refusal}
 
@@ -7,5 +8,4 @@ abbrev pub Answer : Type 0
 Answer = Result Verdict Refusal
 
 abbrev pub is_refused : Answer → Bool
-is_refused (Ok v) = false
-is_refused (Err r) = true
+is_refused a = is_err a

@@ -1,5 +1,5 @@
 -- Refused in the order of the table; else the step, with no reason beside the binding.
-use Rattle.std.specs.Prelude.{Option, None}
+use Rattle.std.specs.Prelude.{Option}
 use borrow.Author.Tests.{leb-true}
 use native.Mathlib.Omega.{arith}
 use Prim.Native.Nat.{◌+◌}

@@ -1,5 +1,4 @@
 -- Refused in the order of the table; else the step.
-use Rattle.std.specs.Prelude.{Some}
 use borrow.Author.Tests.{leb-true}
 use native.Mathlib.Omega.{arith}
 use Prim.Native.Nat.{◌+◌}

@@ -1,5 +1,4 @@
 -- Refused in the order of the table, then of the Rust; else the step.
-use Rattle.std.specs.Prelude.{Some}
 use borrow.Author.Tests.{eq-eqb, ne_eqb, leb-true}
 use native.Mathlib.Omega.{arith}
 use Prim.Native.Nat.{◌+◌}
@@ -40,8 +39,8 @@ retransmit-step-requires-clause-outs_wf c = good-queue c.args.session c.args.lin
 pub retransmit-step-requires-clause-queue_len_bound : goal.retransmit-step-requires-clause-queue_len_bound
 retransmit-step-requires-clause-queue_len_bound c = omega (arith, leb-true (length (queue_of c.args.queue).outs + 6) 32 (is_true c.has_room.ensures c.if-not-has_room.false))
 
-pub returns-then-is_refused : goal.returns-then-is_refused
-returns-then-is_refused c = answer-as _ (retransmit_refused c.args.count (view c.args.session) c.in-Some.binding) _ (within (world_of c.args.session c.args.link c.args.queue) c.args.link.binding (retransmit c.args.now c.args.count (view c.args.session)) c.args.link.reason) c.args.session c.args.link c.args.queue (of-good c.args.session c.args.link c.args.queue (is_true c.is_good.ensures c.if-not-is_good.false) _ _ ∙ if-bound _ c.in-Some.binding _ c.in-Some.is ∙ ap (λ (t : Bool). unless (not t) refusal.ZeroCount (unless (has_room (queue_of c.args.queue)) refusal.OutputFull (retransmit_refused c.args.count (view c.args.session) c.in-Some.binding))) (ne_eqb c.args.count 0 c.if-count-eq0.false) ∙ ap (λ (t : Bool). unless t refusal.OutputFull (retransmit_refused c.args.count (view c.args.session) c.in-Some.binding)) (is_true c.has_room.ensures c.if-not-has_room.false)) (local-refused (retransmit_refused c.args.count (view c.args.session) c.in-Some.binding) c.retransmit-step.result c.in-Some.binding (retransmit c.args.now c.args.count (view c.args.session) c.in-Some.binding) (within (world_of c.args.session c.args.link c.args.queue) c.args.link.binding (retransmit c.args.now c.args.count (view c.args.session)) c.args.link.reason) c.args.session c.args.link c.args.queue c.retransmit-step.ensures (batch-answers c.args.now c.args.count (view c.args.session) c.in-Some.binding) (is_true c.is_refused.ensures c.if-is_refused.true))
+pub returns-then-is_err : goal.returns-then-is_err
+returns-then-is_err c = answer-as _ (retransmit_refused c.args.count (view c.args.session) c.in-Some.binding) _ (within (world_of c.args.session c.args.link c.args.queue) c.args.link.binding (retransmit c.args.now c.args.count (view c.args.session)) c.args.link.reason) c.args.session c.args.link c.args.queue (of-good c.args.session c.args.link c.args.queue (is_true c.is_good.ensures c.if-not-is_good.false) _ _ ∙ if-bound _ c.in-Some.binding _ c.in-Some.is ∙ ap (λ (t : Bool). unless (not t) refusal.ZeroCount (unless (has_room (queue_of c.args.queue)) refusal.OutputFull (retransmit_refused c.args.count (view c.args.session) c.in-Some.binding))) (ne_eqb c.args.count 0 c.if-count-eq0.false) ∙ ap (λ (t : Bool). unless t refusal.OutputFull (retransmit_refused c.args.count (view c.args.session) c.in-Some.binding)) (is_true c.has_room.ensures c.if-not-has_room.false)) (local-refused (retransmit_refused c.args.count (view c.args.session) c.in-Some.binding) c.retransmit-step.result c.in-Some.binding (retransmit c.args.now c.args.count (view c.args.session) c.in-Some.binding) (within (world_of c.args.session c.args.link c.args.queue) c.args.link.binding (retransmit c.args.now c.args.count (view c.args.session)) c.args.link.reason) c.args.session c.args.link c.args.queue c.retransmit-step.ensures (batch-answers c.args.now c.args.count (view c.args.session) c.in-Some.binding) (is_true c.is_err.ensures.value c.if-is_err.true))
 
 pub returns : goal.returns
-returns c = answer-as _ (retransmit_refused c.args.count (view c.args.session) c.in-Some.binding) _ (within (world_of c.args.session c.args.link c.args.queue) c.args.link.binding (retransmit c.args.now c.args.count (view c.args.session)) c.args.link.reason) c.args.session c.args.link c.args.queue (of-good c.args.session c.args.link c.args.queue (is_true c.is_good.ensures c.if-not-is_good.false) _ _ ∙ if-bound _ c.in-Some.binding _ c.in-Some.is ∙ ap (λ (t : Bool). unless (not t) refusal.ZeroCount (unless (has_room (queue_of c.args.queue)) refusal.OutputFull (retransmit_refused c.args.count (view c.args.session) c.in-Some.binding))) (ne_eqb c.args.count 0 c.if-count-eq0.false) ∙ ap (λ (t : Bool). unless t refusal.OutputFull (retransmit_refused c.args.count (view c.args.session) c.in-Some.binding)) (is_true c.has_room.ensures c.if-not-has_room.false)) (local-done (retransmit_refused c.args.count (view c.args.session) c.in-Some.binding) _ c.retransmit-step.result c.in-Some.binding (retransmit c.args.now c.args.count (view c.args.session) c.in-Some.binding) c.args.link.reason (within (world_of c.args.session c.args.link c.args.queue) c.args.link.binding (retransmit c.args.now c.args.count (view c.args.session)) c.args.link.reason) c.args.session c.args.link c.args.queue c.retransmit-step.ensures (is_false c.is_refused.ensures c.if-is_refused.false) c.answered.ensures (within-bound _ _ _ (retransmit c.args.now c.args.count (view c.args.session)) _ c.in-Some.is))
+returns c = answer-as _ (retransmit_refused c.args.count (view c.args.session) c.in-Some.binding) _ (within (world_of c.args.session c.args.link c.args.queue) c.args.link.binding (retransmit c.args.now c.args.count (view c.args.session)) c.args.link.reason) c.args.session c.args.link c.args.queue (of-good c.args.session c.args.link c.args.queue (is_true c.is_good.ensures c.if-not-is_good.false) _ _ ∙ if-bound _ c.in-Some.binding _ c.in-Some.is ∙ ap (λ (t : Bool). unless (not t) refusal.ZeroCount (unless (has_room (queue_of c.args.queue)) refusal.OutputFull (retransmit_refused c.args.count (view c.args.session) c.in-Some.binding))) (ne_eqb c.args.count 0 c.if-count-eq0.false) ∙ ap (λ (t : Bool). unless t refusal.OutputFull (retransmit_refused c.args.count (view c.args.session) c.in-Some.binding)) (is_true c.has_room.ensures c.if-not-has_room.false)) (local-done (retransmit_refused c.args.count (view c.args.session) c.in-Some.binding) _ c.retransmit-step.result c.in-Some.binding (retransmit c.args.now c.args.count (view c.args.session) c.in-Some.binding) c.args.link.reason (within (world_of c.args.session c.args.link c.args.queue) c.args.link.binding (retransmit c.args.now c.args.count (view c.args.session)) c.args.link.reason) c.args.session c.args.link c.args.queue c.retransmit-step.ensures (is_false c.is_err.ensures.value c.if-is_err.false) c.answered.ensures (within-bound _ _ _ (retransmit c.args.now c.args.count (view c.args.session)) _ c.in-Some.is))
