@@ -7,8 +7,8 @@ use crate::numbers::{HEADER, u16_at};
 /// The trace that is read, and the place of the next record.
 #[derive(Clone, Copy)]
 pub struct Trace<'a> {
-    bytes: &'a [u8],
-    at: usize,
+    pub bytes: &'a [u8],
+    pub at: usize,
 }
 
 impl<'a> Trace<'a> {

@@ -3,7 +3,7 @@ ghost use Rattle.std.specs.Prelude.{◌≡◌, ◌+◌, ◌<◌, ◌^◌};
 ghost use Rattle.types.specs.Reasons.{max_reason_len};
 ghost use Rattle.trace.specs.Format.{config_at, open_of, bind_of, peer_reject_of, peer_terminate_of, terminate_of, reject_of};
 ghost use Rattle.trace.specs.Format.{sequence_of, context_of, request_of, retransmission_of, finished_of, applied_of, not_applied_of};
-ghost use Rattle.trace.specs.Format.{exactly, at_least, peer_of, entry_of, reason_at, reason_of, framed, decode};
+ghost use Rattle.trace.specs.Format.{peer_of, entry_of, reason_at, reason_of, framed, decode};
 
 use crate::numbers::{
     HEADER, byte_at, bytes_at, id_at, maybe_duration, maybe_seq, u16_at, u32_at, u64_at,
@@ -51,22 +51,6 @@ pub struct Record {
     pub now: Instant,
     pub stamp: Nanotime,
     pub reason: Reason,
-}
-
-/// A body of a fixed length, in a record of `n` bytes: `whole` is the record's length.
-#[tactic(auto, unfolding(crate::specs::Format::exactly))]
-fn exact(n: usize, whole: usize, entry: Entry) -> Entry
-    ensures { result ≡ exactly whole n entry }
-{
-    if n == whole { entry } else { Entry::Malformed }
-}
-
-/// A body that a reason follows.
-#[tactic(auto, unfolding(crate::specs::Format::at_least))]
-fn at_least(n: usize, whole: usize, entry: Entry) -> Entry
-    ensures { result ≡ at_least whole n entry }
-{
-    if whole <= n { entry } else { Entry::Malformed }
 }
 
 /// The configuration in an open.
@@ -243,46 +227,44 @@ fn reject_at(s: &[u8]) -> Entry
 }
 
 /// The messages of the peer, kinds 32 to 44, with the length of each record.
-#[tactic(auto, unfolding(crate::specs::Format::peer_of))]
+#[tactic(auto, unfolding(crate::specs::Format::peer_of, crate::specs::Format::exactly, crate::specs::Format::at_least))]
 fn peer_of(kind: u16, s: &[u8]) -> Entry
     ensures { result ≡ peer_of kind s.now }
 {
-    let n = s.len();
-    match kind {
-        32 => exact(n, 28, Entry::Peer(sequence_at(s))),
-        33 => exact(n, 44, Entry::Peer(context_at(s))),
-        34 => exact(n, 20, Entry::Peer(PeerMessage::UnsequencedHeartbeat)),
-        35 => exact(n, 56, Entry::Peer(request_at(s))),
-        36 => exact(n, 56, Entry::Peer(retransmission_at(s))),
-        37 => at_least(n, 45, peer_reject_at(s)),
-        38 => at_least(n, 37, peer_terminate_at(s)),
-        39 => exact(n, 44, Entry::Peer(finished_at(s))),
-        40 => exact(n, 36, Entry::Peer(PeerMessage::FinishedReceiving)),
-        41 => exact(n, 32, Entry::Peer(applied_at(s))),
-        42 => exact(n, 32, Entry::Peer(not_applied_at(s))),
-        43 => exact(n, 20, Entry::Peer(PeerMessage::Topic)),
-        44 => exact(n, 20, Entry::Peer(PeerMessage::MessageTemplate)),
+    match (kind, s.len()) {
+        (32, 28) => Entry::Peer(sequence_at(s)),
+        (33, 44) => Entry::Peer(context_at(s)),
+        (34, 20) => Entry::Peer(PeerMessage::UnsequencedHeartbeat),
+        (35, 56) => Entry::Peer(request_at(s)),
+        (36, 56) => Entry::Peer(retransmission_at(s)),
+        (37, 45..) => peer_reject_at(s),
+        (38, 37..) => peer_terminate_at(s),
+        (39, 44) => Entry::Peer(finished_at(s)),
+        (40, 36) => Entry::Peer(PeerMessage::FinishedReceiving),
+        (41, 32) => Entry::Peer(applied_at(s)),
+        (42, 32) => Entry::Peer(not_applied_at(s)),
+        (43, 20) => Entry::Peer(PeerMessage::Topic),
+        (44, 20) => Entry::Peer(PeerMessage::MessageTemplate),
         _ => Entry::Malformed,
     }
 }
 
 /// The calls, with the length of each record, and any other kind.
-#[tactic(auto, unfolding(crate::specs::Format::entry_of))]
+#[tactic(auto, unfolding(crate::specs::Format::entry_of, crate::specs::Format::peer_of, crate::specs::Format::exactly, crate::specs::Format::at_least))]
 fn entry_of(kind: u16, s: &[u8]) -> Entry
     ensures { result ≡ entry_of kind s.now }
 {
-    let n = s.len();
-    match kind {
-        1 => exact(n, 69, open_at(s)),
-        2 => exact(n, 44, bind_at(s)),
-        3 => exact(n, 20, Entry::Release),
-        4 => exact(n, 20, Entry::Application),
-        64 => exact(n, 20, Entry::Send),
-        65 => at_least(n, 21, terminate_at(s)),
-        66 => exact(n, 24, Entry::Retransmit(u32_at(s, 20))),
-        67 => at_least(n, 21, reject_at(s)),
-        68 => exact(n, 20, Entry::End),
-        69 => exact(n, 20, Entry::Timeout),
+    match (kind, s.len()) {
+        (1, 69) => open_at(s),
+        (2, 44) => bind_at(s),
+        (3, 20) => Entry::Release,
+        (4, 20) => Entry::Application,
+        (64, 20) => Entry::Send,
+        (65, 21..) => terminate_at(s),
+        (66, 24) => Entry::Retransmit(u32_at(s, 20)),
+        (67, 21..) => reject_at(s),
+        (68, 20) => Entry::End,
+        (69, 20) => Entry::Timeout,
         _ => peer_of(kind, s),
     }
 }
