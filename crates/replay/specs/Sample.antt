@@ -10,7 +10,8 @@ use Rattle.rules.specs.Numbering.{gap_recorded, on_gap, stop_replay, announced, 
 use Rattle.rules.specs.Binding.{new_session, resume, on_established, bind}
 use Rattle.rules.specs.Peer.{on_peer}
 use Rattle.rules.specs.Calls.{config_fits, sound, call}
-use Rattle.trace.specs.Format.{number_at, bytes_at, maybe_seq, maybe_duration, reason_at, flow_of, policy_of, config_at, open_of, bind_of, exactly, at_least, peer_of, entry_of, reason_of, framed, decode}
+use Rattle.types.specs.Codes.{flow_of, policy_of}
+use Rattle.trace.specs.Format.{number_at, bytes_at, maybe_seq, maybe_duration, reason_at, config_at, open_of, bind_of, exactly, at_least, peer_of, entry_of, reason_of, framed, decode}
 use Rattle.trace.specs.Places.{size_at}
 use Rattle.trace.specs.Ascii.{ascii}
 use Rattle.trace.specs.Text.{digits, line_text}

@@ -10,6 +10,7 @@ use borrow.Author.Tests.{le-leb, lt-leb, eq-eqb}
 use denote.Ref.{Bor}
 use lib.ListN.{length, get_or, set, take, drop, length-take, length-drop}
 use lib.Seq.{get_or-set_same, get_or-set_other, get_or-take, get_or-drop}
+use Rattle.std.specs.Int.{w16, w32, w64, from_le_bytes}
 use Rattle.trace.specs.Format.{number_at, bytes_at, u16_at, header, framed}
 use Rattle.trace.specs.Places.{size_at, Part, RecordAt}
 
@@ -22,6 +23,19 @@ number-split (suc j) k s at =
     let p : 256 ^ suc j * number_at k s (at + suc j) ≡ 256 * (256 ^ j * number_at k s (at + 1 + j)) =
     rw (pow-succ' 256 j, mul_assoc 256 (256 ^ j)) (ap (λ (n : ℕ). 256 * (256 ^ j * number_at k s n)) (omega arith)) in
     rw (suc-add j k) (omega (arith, e, p))
+
+-- the library's number of little-endian bytes is ours
+pub le_two : (s : List ℕ) (at : ℕ) → from_le_bytes w16 (bytes_at 2 s at) ≡ number_at 2 s at
+unfolding bytes_at number_at
+le_two s at = omega arith
+
+pub le_four : (s : List ℕ) (at : ℕ) → from_le_bytes w32 (bytes_at 4 s at) ≡ number_at 4 s at
+unfolding bytes_at number_at
+le_four s at = omega arith
+
+pub le_eight : (s : List ℕ) (at : ℕ) → from_le_bytes w64 (bytes_at 8 s at) ≡ number_at 8 s at
+unfolding bytes_at number_at
+le_eight s at = omega arith
 
 -- one byte
 pub number-one : (s : List ℕ) (at : ℕ) → number_at 1 s at ≡ get_or s at 0

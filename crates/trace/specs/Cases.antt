@@ -1,6 +1,7 @@
 -- Worked examples of 01's format and lines, both sides of each edge: each holds by computing.
 use Rattle.std.specs.Prelude.{ℕ, zero, suc, ◌+◌, ◌/◌, ◌%◌, ◌≡◌, refl, true, false, List, [], ◌∷◌, ◌++◌, length, replicate, Option, Some, None, Ok, Err}
 use Rattle.types.specs.Base.{all_ones}
+use Rattle.types.specs.Codes.{flow_of, termination_of, rejection_of, policy_of}
 use Rattle.rules.specs.Names.{SeqNum, SessionId}
 use Rattle.rules.specs.Names.flow
 use Rattle.rules.specs.Names.code
@@ -13,7 +14,7 @@ use Rattle.rules.specs.Names.delivery
 use Rattle.rules.specs.Names.verdict
 use Rattle.trace.specs.declared.records.Entry.{Entry}
 use Rattle.trace.specs.declared.records.Entry.TheVariants as entry
-use Rattle.trace.specs.Format.{number_at, bytes_at, maybe_seq, maybe_duration, reason_at, flow_of, termination_of, rejection_of, policy_of}
+use Rattle.trace.specs.Format.{number_at, bytes_at, maybe_seq, maybe_duration, reason_at}
 use Rattle.trace.specs.Format.{config_at, open_of, bind_of, peer_reject_of, peer_terminate_of, terminate_of, reject_of, exactly, at_least}
 use Rattle.trace.specs.Format.{peer_of, entry_of, reason_of, framed, decode}
 use Rattle.trace.specs.Places.{size_at}

@@ -1,13 +1,10 @@
 -- Which bytes are a record of the trace, and what it means (01, "Trace program"). A number past the end reads 0: a length decides first.
-use Rattle.std.specs.Prelude.{ℕ, zero, suc, ◌+◌, ◌*◌, ◌-◌, Bool, ◌&&◌, List, [], ◌∷◌, length, get_or, leb, eqb, if◌then◌else◌, Option, Some, None}
+use Rattle.std.specs.Prelude.{ℕ, zero, suc, ◌+◌, ◌*◌, ◌-◌, Bool, ◌&&◌, List, [], ◌∷◌, length, get_or, leb, eqb, if◌then◌else◌, Option, Some, None, Result, Ok, Err}
 use Rattle.types.specs.Base.{all_ones}
-use Rattle.types.specs.Flows.{flow_number, termination_number, rejection_number, policy_number}
+use Rattle.types.specs.Codes.{flow_of, termination_of, rejection_of, policy_of}
+use Rattle.types.specs.declared.codes.Unlisted.{Unlisted}
 use Rattle.types.specs.Reasons.{no_text, max_reason_len}
-use Rattle.rules.specs.Names.{SeqNum, Nanotime, SessionId, FlowType, TerminationCode, RetransmitRejectCode, RetransmitStallPolicy, FixpConfig, Reason, PeerMessage}
-use Rattle.rules.specs.Names.flow
-use Rattle.rules.specs.Names.code
-use Rattle.rules.specs.Names.rejection
-use Rattle.rules.specs.Names.policy
+use Rattle.rules.specs.Names.{SeqNum, Nanotime, SessionId, RetransmitStallPolicy, FixpConfig, Reason, PeerMessage}
 use Rattle.rules.specs.Names.peer
 use Rattle.trace.specs.declared.records.Entry.{Entry}
 use Rattle.trace.specs.declared.records.Entry.TheVariants as entry
@@ -59,52 +56,9 @@ unfoldable pub reason_at : List ℕ → ℕ → Reason
 reason_at s at = record { bytes = bytes_at max_reason_len s at; len = length s - at }
 
 -- ---- codes: "A code outside its list makes the record malformed."
-unfoldable pub flow_of : ℕ → Option FlowType
-flow_of n =
-    if eqb n (flow_number flow.Recoverable) then Some flow.Recoverable
-    else (if eqb n (flow_number flow.Idempotent) then Some flow.Idempotent
-    else (if eqb n (flow_number flow.Unsequenced) then Some flow.Unsequenced
-    else (if eqb n (flow_number flow.None) then Some flow.None
-    else None)))
-
-unfoldable pub termination_of : ℕ → Option TerminationCode
-termination_of n =
-    if eqb n (termination_number code.Finished) then Some code.Finished
-    else (if eqb n (termination_number code.UnspecifiedError) then Some code.UnspecifiedError
-    else (if eqb n (termination_number code.ReRequestOutOfBounds) then Some code.ReRequestOutOfBounds
-    else (if eqb n (termination_number code.ReRequestInProgress) then Some code.ReRequestInProgress
-    else None)))
-
-unfoldable pub rejection_of : ℕ → Option RetransmitRejectCode
-rejection_of n =
-    if eqb n (rejection_number rejection.OutOfRange) then Some rejection.OutOfRange
-    else (if eqb n (rejection_number rejection.InvalidSession) then Some rejection.InvalidSession
-    else (if eqb n (rejection_number rejection.RequestLimitExceeded) then Some rejection.RequestLimitExceeded
-    else None))
-
-unfoldable pub policy_of : ℕ → Option RetransmitStallPolicy
-policy_of n =
-    if eqb n (policy_number policy.Terminate) then Some policy.Terminate
-    else (if eqb n (policy_number policy.ReRequestAfterContextSwitch) then Some policy.ReRequestAfterContextSwitch
-    else (if eqb n (policy_number policy.ReRequestAfterBatch) then Some policy.ReRequestAfterBatch
-    else (if eqb n (policy_number policy.EventOnly) then Some policy.EventOnly
-    else None)))
-
-abbrev pub with_flow : Option FlowType → (FlowType → Entry) → Entry
-with_flow None k = entry.Malformed
-with_flow (Some f) k = k f
-
-abbrev pub with_termination : Option TerminationCode → (TerminationCode → Entry) → Entry
-with_termination None k = entry.Malformed
-with_termination (Some c) k = k c
-
-abbrev pub with_rejection : Option RetransmitRejectCode → (RetransmitRejectCode → Entry) → Entry
-with_rejection None k = entry.Malformed
-with_rejection (Some c) k = k c
-
-abbrev pub with_policy : Option RetransmitStallPolicy → (RetransmitStallPolicy → Entry) → Entry
-with_policy None k = entry.Malformed
-with_policy (Some p) k = k p
+abbrev pub with_code : {A : Type 0} → Result A Unlisted → (A → Entry) → Entry
+with_code (Ok c) k = k c
+with_code (Err u) k = entry.Malformed
 
 -- ---- bodies: they start at 20, after length, kind, instant and stamp
 abbrev pub header : ℕ
@@ -124,9 +78,9 @@ config_at s p =
 
 unfoldable pub open_of : List ℕ → Entry
 open_of s =
-    with_flow (flow_of (code_at s 36)) (λ local.
-    with_flow (flow_of (code_at s 37)) (λ remote.
-    with_policy (policy_of (code_at s 68)) (λ p. entry.Open (id_at s 20) local remote (config_at s p))))
+    with_code (flow_of (code_at s 36)) (λ local.
+    with_code (flow_of (code_at s 37)) (λ remote.
+    with_code (policy_of (code_at s 68)) (λ p. entry.Open (id_at s 20) local remote (config_at s p))))
 
 -- "local keepalive, remote keepalive, next (u64 each)"
 unfoldable pub bind_of : List ℕ → Entry
@@ -150,13 +104,13 @@ retransmission_of s = peer.Retransmission (record { session_id = id_at s 20; req
 -- "id, stamp, code, reason"
 unfoldable pub peer_reject_of : List ℕ → Entry
 peer_reject_of s =
-    with_rejection (rejection_of (code_at s 44)) (λ c.
+    with_code (rejection_of (code_at s 44)) (λ c.
     entry.Peer (peer.RetransmitReject (record { session_id = id_at s 20; request_timestamp = stamp_at s 36; code = c })))
 
 -- "id, code, reason"
 unfoldable pub peer_terminate_of : List ℕ → Entry
 peer_terminate_of s =
-    with_termination (termination_of (code_at s 36)) (λ c.
+    with_code (termination_of (code_at s 36)) (λ c.
     entry.Peer (peer.Terminate (record { session_id = id_at s 20; code = c })))
 
 -- "id, last"
@@ -172,10 +126,10 @@ not_applied_of s = peer.NotApplied (record { from_seq_no = seq_at s 20; count = 
 
 -- "code, reason"
 unfoldable pub terminate_of : List ℕ → Entry
-terminate_of s = with_termination (termination_of (code_at s 20)) entry.Terminate
+terminate_of s = with_code (termination_of (code_at s 20)) entry.Terminate
 
 unfoldable pub reject_of : List ℕ → Entry
-reject_of s = with_rejection (rejection_of (code_at s 20)) entry.Reject
+reject_of s = with_code (rejection_of (code_at s 20)) entry.Reject
 
 -- ---- the table of kinds, with the length of each body
 -- a record of n bytes is as long as its kind says

@@ -1,5 +1,5 @@
 -- Where the records of a trace stand: each as a part of it.
-use Rattle.std.specs.Prelude.{ℕ, ◌+◌, ◌<◌, ◌≤◌, ◌≡◌, ◌&&◌, List, length, take, drop, leb, if◌then◌else◌}
+use Rattle.std.specs.Prelude.{ℕ, ◌+◌, ◌<◌, ◌≤◌, ◌≡◌, ◌&&◌, List, length, take, drop, leb, if◌then◌else◌, Option, Some, None}
 use Rattle.std.specs.Borrow.{Bor}
 use Rattle.trace.specs.Format.{u16_at, header}
 
@@ -19,3 +19,8 @@ pub record RecordAt (s : Bor (List ℕ)) (at : ℕ) (r : Bor (List ℕ)) : Type 
   pub size : length r.now ≡ size_at s.now at
   pub inside : at + length r.now ≤ length s.now
   pub moves : 0 < length r.now → header ≤ length r.now
+
+-- the next record of s where a place is, and the place behind it; none at the end
+abbrev pub Next : Bor (List ℕ) → ℕ → Option (Bor (List ℕ)) → ℕ → Type 0
+Next s at None after = (length s.now ≤ at) × (after ≡ at)
+Next s at (Some r) after = (at < length s.now) × RecordAt s at r × (after ≡ at + length r.now)

@@ -1,7 +1,6 @@
 //! 01's binary trace: its reader, the meaning of a record, and the text of a line.
 #![tactic(auto)]
 
-pub mod codes;
 pub mod numbers;
 pub mod reader;
 pub mod records;

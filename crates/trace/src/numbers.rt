@@ -1,6 +1,6 @@
 //! Little-endian numbers at a place of a slice. What lies past the end reads 0: the decoder looks at a record's length first.
 ghost use Rattle.std.specs.Prelude.{◌≡◌, ◌+◌, ◌<◌, ◌^◌};
-ghost use Rattle.trace.specs.Format.{code_at, u16_at, u32_at, u64_at, id_at, maybe_seq, maybe_duration};
+ghost use Rattle.trace.specs.Format.{code_at, bytes_at, u16_at, u32_at, u64_at, id_at, maybe_seq, maybe_duration};
 
 use types::ids::{ALL_ONES, SeqNum, SessionId};
 
@@ -11,40 +11,46 @@ pub const HEADER: usize = 20;
 pub fn byte_at(s: &[u8], at: usize) -> u8
     ensures { result ≡ code_at s.now at }
 {
-    if at < s.len() {
-        return s[at];
-    }
-    0
+    s.get(at).copied().unwrap_or(0)
 }
 
-/// Two bytes, the lower first.
+/// The `N` bytes from a place on.
+pub fn bytes_at<const N: usize>(s: &[u8], at: usize) -> [u8; N]
+    requires { at + N < 2 ^ 64 }
+    ensures { result ≡ bytes_at N s.now at }
+{
+    let mut bytes = [0; N];
+    for (i, byte) in bytes.iter_mut().enumerate() {
+        *byte = byte_at(s, at + i);
+    }
+    bytes
+}
+
+/// Two bytes, the lowest first.
+#[tactic(auto, using(crate::proofs::Laws::le_two))]
 pub fn u16_at(s: &[u8], at: usize) -> u16
     requires { at + 2 < 2 ^ 64 }
     ensures { result ≡ u16_at s.now at }
 {
-    let low = byte_at(s, at) as u16;
-    let high = byte_at(s, at + 1) as u16;
-    low + high * 256
+    u16::from_le_bytes(bytes_at(s, at))
 }
 
-/// Four bytes, the lower half first.
+/// Four bytes, the lowest first.
+#[tactic(auto, using(crate::proofs::Laws::le_four))]
 pub fn u32_at(s: &[u8], at: usize) -> u32
     requires { at + 4 < 2 ^ 64 }
     ensures { result ≡ u32_at s.now at }
 {
-    let low = u16_at(s, at) as u32;
-    let high = u16_at(s, at + 2) as u32;
-    low + high * 65536
+    u32::from_le_bytes(bytes_at(s, at))
 }
 
-/// Eight bytes, the lower half first.
+/// Eight bytes, the lowest first.
+#[tactic(auto, using(crate::proofs::Laws::le_eight))]
 pub fn u64_at(s: &[u8], at: usize) -> u64
     requires { at + 8 < 2 ^ 64 }
     ensures { result ≡ u64_at s.now at }
 {
-    let low = u32_at(s, at) as u64;
-    let high = u32_at(s, at + 4) as u64;
-    low + high * 4294967296
+    u64::from_le_bytes(bytes_at(s, at))
 }
 
 /// The 16 bytes of an id.
@@ -56,21 +62,17 @@ pub fn id_at(s: &[u8], at: usize) -> SessionId
 }
 
 /// A number of which all ones means absent (01: bind's next, FinishedSending's last).
+#[tactic(auto, unfolding(crate::specs::Format::maybe_seq))]
 pub fn maybe_seq(n: u64) -> Option<SeqNum>
     ensures { result ≡ maybe_seq n }
 {
-    if n == ALL_ONES {
-        return None;
-    }
-    Some(SeqNum(n))
+    if n == ALL_ONES { None } else { Some(SeqNum(n)) }
 }
 
 /// A duration of which all ones means absent (01: open's grace).
+#[tactic(auto, unfolding(crate::specs::Format::maybe_duration))]
 pub fn maybe_duration(n: u64) -> Option<u64>
     ensures { result ≡ maybe_duration n }
 {
-    if n == ALL_ONES {
-        return None;
-    }
-    Some(n)
+    if n == ALL_ONES { None } else { Some(n) }
 }

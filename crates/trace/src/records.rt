@@ -3,14 +3,20 @@ ghost use Rattle.std.specs.Prelude.{◌≡◌, ◌+◌, ◌<◌, ◌^◌};
 ghost use Rattle.types.specs.Reasons.{max_reason_len};
 ghost use Rattle.trace.specs.Format.{config_at, open_of, bind_of, peer_reject_of, peer_terminate_of, terminate_of, reject_of};
 ghost use Rattle.trace.specs.Format.{sequence_of, context_of, request_of, retransmission_of, finished_of, applied_of, not_applied_of};
-ghost use Rattle.trace.specs.Format.{exactly, at_least, peer_of, entry_of, reason_at, reason_of, framed, decode};
+ghost use Rattle.trace.specs.Format.{peer_of, entry_of, reason_at, reason_of, framed, decode};
 
-use crate::codes::{FlowType, RetransmitStallPolicy, RetransmitRejectCode, TerminationCode, flow, policy, rejection, termination};
-use crate::numbers::{HEADER, byte_at, id_at, maybe_duration, maybe_seq, u16_at, u32_at, u64_at};
+use crate::numbers::{
+    HEADER, byte_at, bytes_at, id_at, maybe_duration, maybe_seq, u16_at, u32_at, u64_at,
+};
 use types::config::{FixpConfig, RetransmitStallPolicy};
-use types::ids::{FlowType, Instant, Nanotime, RetransmitRejectCode, SeqNum, SessionId, TerminationCode};
-use types::messages::{Applied, Context, FinishedSending, NotApplied, PeerMessage, Retransmission, RetransmitReject, RetransmitRequest, Sequence, Terminate};
-use types::reasons::{MAX_REASON_LEN, Reason};
+use types::ids::{
+    FlowType, Instant, Nanotime, RetransmitRejectCode, SeqNum, SessionId, TerminationCode,
+};
+use types::messages::{
+    Applied, Context, FinishedSending, NotApplied, PeerMessage, Retransmission, RetransmitReject,
+    RetransmitRequest, Sequence, Terminate,
+};
+use types::reasons::Reason;
 
 /// What a record asks for. A reason stands beside it.
 #[derive(Clone, Copy)]
@@ -47,73 +53,52 @@ pub struct Record {
     pub reason: Reason,
 }
 
-/// A body of a fixed length, in a record of `n` bytes: `whole` is the record's length.
-fn exact(n: usize, whole: usize, entry: Entry) -> Entry
-    ensures { result ≡ exactly whole n entry }
-{
-    if n == whole {
-        return entry;
-    }
-    Entry::Malformed
-}
-
-/// A body that a reason follows.
-fn at_least(n: usize, whole: usize, entry: Entry) -> Entry
-    ensures { result ≡ at_least whole n entry }
-{
-    if whole <= n {
-        return entry;
-    }
-    Entry::Malformed
-}
-
 /// The configuration in an open.
+#[tactic(auto, unfolding(crate::specs::Format::config_at))]
 fn config_at(s: &[u8], retransmit_stall_policy: RetransmitStallPolicy) -> FixpConfig
     ensures { result ≡ config_at s.now retransmit_stall_policy }
 {
-    let grace = maybe_duration(u64_at(s, 60));
     FixpConfig {
         max_gap_len: u64_at(s, 38),
         max_retransmit_count: u32_at(s, 46),
         max_pending_gaps: u16_at(s, 50),
         retransmit_timeout: u64_at(s, 52),
-        peer_silence_grace: grace,
+        peer_silence_grace: maybe_duration(u64_at(s, 60)),
         retransmit_stall_policy,
     }
 }
 
 /// Kind 1.
+#[tactic(auto, unfolding(crate::specs::Format::open_of))]
 fn open_at(s: &[u8]) -> Entry
     ensures { result ≡ open_of s.now }
 {
-    let Some(local_flow) = flow(byte_at(s, 36)) else {
+    let Ok(local_flow) = FlowType::try_from(byte_at(s, 36)) else {
         return Entry::Malformed;
     };
-    let Some(remote_flow) = flow(byte_at(s, 37)) else {
+    let Ok(remote_flow) = FlowType::try_from(byte_at(s, 37)) else {
         return Entry::Malformed;
     };
-    let Some(stall) = policy(byte_at(s, 68)) else {
+    let Ok(stall) = RetransmitStallPolicy::try_from(byte_at(s, 68)) else {
         return Entry::Malformed;
     };
-    let id = id_at(s, 20);
-    let config = config_at(s, stall);
     Entry::Open {
-        id,
+        id: id_at(s, 20),
         local_flow,
         remote_flow,
-        config,
+        config: config_at(s, stall),
     }
 }
 
 /// Kind 2.
+#[tactic(auto, unfolding(crate::specs::Format::bind_of))]
 fn bind_at(s: &[u8]) -> Entry
     ensures { result ≡ bind_of s.now }
 {
-    let next = maybe_seq(u64_at(s, 36));
     Entry::Bind {
         local_keepalive: u64_at(s, 20),
         remote_keepalive: u64_at(s, 28),
-        next,
+        next: maybe_seq(u64_at(s, 36)),
     }
 }
 
@@ -161,10 +146,11 @@ fn retransmission_at(s: &[u8]) -> PeerMessage
 }
 
 /// Kind 37.
+#[tactic(auto, unfolding(crate::specs::Format::peer_reject_of))]
 fn peer_reject_at(s: &[u8]) -> Entry
     ensures { result ≡ peer_reject_of s.now }
 {
-    let Some(code) = rejection(byte_at(s, 44)) else {
+    let Ok(code) = RetransmitRejectCode::try_from(byte_at(s, 44)) else {
         return Entry::Malformed;
     };
     Entry::Peer(PeerMessage::RetransmitReject(RetransmitReject {
@@ -175,10 +161,11 @@ fn peer_reject_at(s: &[u8]) -> Entry
 }
 
 /// Kind 38.
+#[tactic(auto, unfolding(crate::specs::Format::peer_terminate_of))]
 fn peer_terminate_at(s: &[u8]) -> Entry
     ensures { result ≡ peer_terminate_of s.now }
 {
-    let Some(code) = termination(byte_at(s, 36)) else {
+    let Ok(code) = TerminationCode::try_from(byte_at(s, 36)) else {
         return Entry::Malformed;
     };
     Entry::Peer(PeerMessage::Terminate(Terminate {
@@ -191,10 +178,9 @@ fn peer_terminate_at(s: &[u8]) -> Entry
 fn finished_at(s: &[u8]) -> PeerMessage
     ensures { result ≡ finished_of s.now }
 {
-    let last = maybe_seq(u64_at(s, 36));
     PeerMessage::FinishedSending(FinishedSending {
         session_id: id_at(s, 20),
-        last_seq_no: last,
+        last_seq_no: maybe_seq(u64_at(s, 36)),
     })
 }
 
@@ -219,89 +205,84 @@ fn not_applied_at(s: &[u8]) -> PeerMessage
 }
 
 /// Kind 65.
+#[tactic(auto, unfolding(crate::specs::Format::terminate_of))]
 fn terminate_at(s: &[u8]) -> Entry
     ensures { result ≡ terminate_of s.now }
 {
-    let Some(code) = termination(byte_at(s, 20)) else {
+    let Ok(code) = TerminationCode::try_from(byte_at(s, 20)) else {
         return Entry::Malformed;
     };
     Entry::Terminate(code)
 }
 
 /// Kind 67.
+#[tactic(auto, unfolding(crate::specs::Format::reject_of))]
 fn reject_at(s: &[u8]) -> Entry
     ensures { result ≡ reject_of s.now }
 {
-    let Some(code) = rejection(byte_at(s, 20)) else {
+    let Ok(code) = RetransmitRejectCode::try_from(byte_at(s, 20)) else {
         return Entry::Malformed;
     };
     Entry::Reject(code)
 }
 
 /// The messages of the peer, kinds 32 to 44, with the length of each record.
+#[tactic(auto, unfolding(crate::specs::Format::peer_of, crate::specs::Format::exactly, crate::specs::Format::at_least))]
 fn peer_of(kind: u16, s: &[u8]) -> Entry
     ensures { result ≡ peer_of kind s.now }
 {
-    let n = s.len();
-    match kind {
-        32 => exact(n, 28, Entry::Peer(sequence_at(s))),
-        33 => exact(n, 44, Entry::Peer(context_at(s))),
-        34 => exact(n, 20, Entry::Peer(PeerMessage::UnsequencedHeartbeat)),
-        35 => exact(n, 56, Entry::Peer(request_at(s))),
-        36 => exact(n, 56, Entry::Peer(retransmission_at(s))),
-        37 => at_least(n, 45, peer_reject_at(s)),
-        38 => at_least(n, 37, peer_terminate_at(s)),
-        39 => exact(n, 44, Entry::Peer(finished_at(s))),
-        40 => exact(n, 36, Entry::Peer(PeerMessage::FinishedReceiving)),
-        41 => exact(n, 32, Entry::Peer(applied_at(s))),
-        42 => exact(n, 32, Entry::Peer(not_applied_at(s))),
-        43 => exact(n, 20, Entry::Peer(PeerMessage::Topic)),
-        44 => exact(n, 20, Entry::Peer(PeerMessage::MessageTemplate)),
+    match (kind, s.len()) {
+        (32, 28) => Entry::Peer(sequence_at(s)),
+        (33, 44) => Entry::Peer(context_at(s)),
+        (34, 20) => Entry::Peer(PeerMessage::UnsequencedHeartbeat),
+        (35, 56) => Entry::Peer(request_at(s)),
+        (36, 56) => Entry::Peer(retransmission_at(s)),
+        (37, 45..) => peer_reject_at(s),
+        (38, 37..) => peer_terminate_at(s),
+        (39, 44) => Entry::Peer(finished_at(s)),
+        (40, 36) => Entry::Peer(PeerMessage::FinishedReceiving),
+        (41, 32) => Entry::Peer(applied_at(s)),
+        (42, 32) => Entry::Peer(not_applied_at(s)),
+        (43, 20) => Entry::Peer(PeerMessage::Topic),
+        (44, 20) => Entry::Peer(PeerMessage::MessageTemplate),
         _ => Entry::Malformed,
     }
 }
 
 /// The calls, with the length of each record, and any other kind.
+#[tactic(auto, unfolding(crate::specs::Format::entry_of, crate::specs::Format::peer_of, crate::specs::Format::exactly, crate::specs::Format::at_least))]
 fn entry_of(kind: u16, s: &[u8]) -> Entry
     ensures { result ≡ entry_of kind s.now }
 {
-    let n = s.len();
-    match kind {
-        1 => exact(n, 69, open_at(s)),
-        2 => exact(n, 44, bind_at(s)),
-        3 => exact(n, 20, Entry::Release),
-        4 => exact(n, 20, Entry::Application),
-        64 => exact(n, 20, Entry::Send),
-        65 => at_least(n, 21, terminate_at(s)),
-        66 => exact(n, 24, Entry::Retransmit(u32_at(s, 20))),
-        67 => at_least(n, 21, reject_at(s)),
-        68 => exact(n, 20, Entry::End),
-        69 => exact(n, 20, Entry::Timeout),
+    match (kind, s.len()) {
+        (1, 69) => open_at(s),
+        (2, 44) => bind_at(s),
+        (3, 20) => Entry::Release,
+        (4, 20) => Entry::Application,
+        (64, 20) => Entry::Send,
+        (65, 21..) => terminate_at(s),
+        (66, 24) => Entry::Retransmit(u32_at(s, 20)),
+        (67, 21..) => reject_at(s),
+        (68, 20) => Entry::End,
+        (69, 20) => Entry::Timeout,
         _ => peer_of(kind, s),
     }
 }
 
 /// The rest of a record from `at` on: its length, and the bytes that there is room for.
+#[tactic(auto, unfolding(crate::specs::Format::reason_at))]
 fn reason_at(s: &[u8], at: usize) -> Reason
     requires { at + max_reason_len < 2 ^ 64 }
     ensures { result ≡ reason_at s.now at }
 {
-    let mut bytes = [0u8; MAX_REASON_LEN];
-    let mut i: usize = 0;
-    while i < MAX_REASON_LEN {
-        bytes[i] = byte_at(s, at + i);
-        i = i + 1;
+    Reason {
+        bytes: bytes_at(s, at),
+        len: s.len().saturating_sub(at),
     }
-    if at < s.len() {
-        return Reason {
-            bytes,
-            len: s.len() - at,
-        };
-    }
-    Reason { bytes, len: 0 }
 }
 
 /// The reason of a record, of the kinds that have one.
+#[tactic(auto, unfolding(crate::specs::Format::reason_of))]
 fn reason_of(kind: u16, s: &[u8]) -> Reason
     ensures { result ≡ reason_of kind s.now }
 {
@@ -315,36 +296,27 @@ fn reason_of(kind: u16, s: &[u8]) -> Reason
 }
 
 /// Whether `s` has a header and is as long as it says.
+#[tactic(auto, unfolding(crate::specs::Format::framed))]
 fn is_framed(s: &[u8]) -> bool
     ensures { result ≡ framed s.now }
 {
-    if s.len() < HEADER {
-        return false;
-    }
-    (u16_at(s, 0) as usize) == s.len()
+    HEADER <= s.len() && u16_at(s, 0) as usize == s.len()
 }
 
 /// The record that the bytes `s` are, or Malformed: for every byte string whatever.
+#[tactic(auto, unfolding(crate::specs::Format::decode))]
 pub fn read_record(s: &[u8]) -> Record
     ensures { result ≡ decode s.now }
 {
     let kind = u16_at(s, 2);
-    let now = Instant(u64_at(s, 4));
-    let stamp = Nanotime(u64_at(s, 12));
-    let reason = reason_of(kind, s);
-    if is_framed(s) {
-        let entry = entry_of(kind, s);
-        return Record {
-            entry,
-            now,
-            stamp,
-            reason,
-        };
-    }
     Record {
-        entry: Entry::Malformed,
-        now,
-        stamp,
-        reason,
+        entry: if is_framed(s) {
+            entry_of(kind, s)
+        } else {
+            Entry::Malformed
+        },
+        now: Instant(u64_at(s, 4)),
+        stamp: Nanotime(u64_at(s, 12)),
+        reason: reason_of(kind, s),
     }
 }

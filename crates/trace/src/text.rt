@@ -1,21 +1,16 @@
 //! The lines that the trace program prints (01, "Trace program").
-ghost use Rattle.std.specs.Prelude.{◌≡◌, ◌∷◌, [], ◌++◌, ◌+◌, ◌≤◌, length};
+ghost use Rattle.std.specs.Prelude.{◌≡◌, ◌∷◌, [], ◌++◌, ◌+◌, ◌≤◌, length, Ok};
+ghost use Rattle.rules.specs.Names.verdict;
 ghost use Rattle.rules.specs.Answers.{refusal_number, numbers, told};
 ghost use Rattle.trace.specs.Ascii.{ascii};
 ghost use Rattle.trace.specs.Text.{digits, decimal, most_digits, colons, answer_text, status_text, expected_text};
 ghost use Rattle.trace.specs.Text.{line_text, first_text, end_text, stop_text, max_line, standing_text, counts_text, Adds};
 
-use types::answers::{Answer, Delivery, Refusal, SessionStatus};
+use types::answers::{Delivery, Refusal, SessionStatus, Verdict};
+use types::ids::SeqNum;
 
 /// Room for the longest line: the one place that names it.
 pub const MAX_LINE: usize = 144;
-
-/// A count as a number.
-fn wide(n: u32) -> u64
-    ensures { result ≡ n }
-{
-    n as u64
-}
 
 /// The number of a refusal in 01's table.
 pub fn refusal_number(refusal: Refusal) -> u64
@@ -58,17 +53,13 @@ fn push_digits(out: &mut [u8], at: usize, n: u64, k: usize) -> usize
 }
 
 /// The bytes of a word.
-fn push_word(out: &mut [u8], mut at: usize, word: &[u8]) -> usize
+fn push_word(out: &mut [u8], at: usize, word: &[u8]) -> usize
     requires { at + length word.now ≤ length out.old }
     ensures { Adds out.old at word.now (length word.now) out.new result }
 {
-    let mut i: usize = 0;
-    while i < word.len() {
-        out[at] = word[i];
-        at = at + 1;
-        i = i + 1;
-    }
-    at
+    let next = at + word.len();
+    out[at..next].copy_from_slice(word);
+    next
 }
 
 /// A number in decimal.
@@ -102,7 +93,7 @@ fn push_maybe_colon(out: &mut [u8], at: usize, seq: Option<SeqNum>) -> usize
 /// `accept`, `replay` or `discard`.
 fn push_delivery(out: &mut [u8], at: usize, delivery: Delivery) -> usize
     requires { at + 27 ≤ length out.old }
-    ensures { Adds out.old at (answer_text (told (Answer.Delivered delivery))) 27 out.new result }
+    ensures { Adds out.old at (answer_text (told (Ok (verdict.Delivered delivery)))) 27 out.new result }
 {
     match delivery {
         Delivery::Accept { seq, retransmitted } => {
@@ -117,26 +108,36 @@ fn push_delivery(out: &mut [u8], at: usize, delivery: Delivery) -> usize
     }
 }
 
-/// An answer, at most `batch:` with a number of 20 digits and a count.
-fn push_answer(out: &mut [u8], at: usize, answer: Answer) -> usize
+/// What a call that was not refused answers, at most `batch:` with a number of 20 digits and a count.
+fn push_verdict(out: &mut [u8], at: usize, verdict: Verdict) -> usize
+    requires { at + 47 ≤ length out.old }
+    ensures { Adds out.old at (answer_text (told (Ok verdict))) 47 out.new result }
+{
+    match verdict {
+        Verdict::Done => push_word(out, at, b"ok"),
+        Verdict::Delivered(delivery) => push_delivery(out, at, delivery),
+        Verdict::Sent(seq) => {
+            let next = push_word(out, at, b"sent");
+            push_maybe_colon(out, next, seq)
+        }
+        Verdict::Batch(batch) => {
+            let next = push_word(out, at, b"batch");
+            let from = push_colon(out, next, batch.from.0);
+            push_colon(out, from, batch.count as u64)
+        }
+    }
+}
+
+/// An answer: a verdict, or the number of a refusal.
+fn push_answer(out: &mut [u8], at: usize, answer: Result<Verdict, Refusal>) -> usize
     requires { at + 47 ≤ length out.old }
     ensures { Adds out.old at (answer_text (told answer)) 47 out.new result }
 {
     match answer {
-        Ok(Verdict::Done) => push_word(out, at, b"ok"),
-        Ok(Verdict::Delivered(d)) => push_delivery(out, at, d),
-        Ok(Verdict::Sent(seq)) => {
-            let next = push_word(out, at, b"sent");
-            push_maybe_colon(out, next, seq)
-        }
-        Ok(Verdict::Batch(b)) => {
-            let next = push_word(out, at, b"batch");
-            let from = push_colon(out, next, b.from.0);
-            push_colon(out, from, wide(b.count))
-        }
-        Err(r) => {
+        Ok(verdict) => push_verdict(out, at, verdict),
+        Err(refusal) => {
             let next = push_word(out, at, b"refused");
-            push_colon(out, next, refusal_number(r))
+            push_colon(out, next, refusal_number(refusal))
         }
     }
 }
@@ -166,7 +167,12 @@ fn push_expected(out: &mut [u8], at: usize, expected: Option<SeqNum>) -> usize
 }
 
 /// Status after and expected number.
-fn push_standing(out: &mut [u8], at: usize, status: SessionStatus, expected: Option<SeqNum>) -> usize
+fn push_standing(
+    out: &mut [u8],
+    at: usize,
+    status: SessionStatus,
+    expected: Option<SeqNum>,
+) -> usize
     requires { at + 33 ≤ length out.old }
     ensures { Adds out.old at (standing_text status expected) 33 out.new result }
 {
@@ -192,7 +198,7 @@ pub fn record_line(
     out: &mut [u8],
     at: usize,
     index: u64,
-    answer: Answer,
+    answer: Result<Verdict, Refusal>,
     status: SessionStatus,
     expected: Option<SeqNum>,
     gaps: u64,

@@ -1,5 +1,4 @@
 -- `trace::text::push_expected` meets its contract: the number, or `-`. Assumes nothing.
-use Rattle.std.specs.Prelude.{Some, None}
 use native.Mathlib.Omega.{arith}
 use Rattle.trace.proofs.Lines.{adds-less}
 use Rattle.trace.proofs.text.push_expected.Goals as goal

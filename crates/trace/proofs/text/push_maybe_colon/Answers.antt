@@ -1,5 +1,4 @@
 -- `trace::text::push_maybe_colon` meets its contract: a number after a colon, or nothing. Assumes nothing.
-use Rattle.std.specs.Prelude.{Some, None}
 use native.Mathlib.Omega.{arith}
 use Rattle.trace.proofs.Lines.{adds_none, adds-less}
 use Rattle.trace.proofs.text.push_maybe_colon.Goals as goal

@@ -1,7 +1,7 @@
--- `trace::reader::record_at` meets its contract: the size is what `size_at` says, and `part` gives the part. Assumes nothing.
+-- `trace::reader::view` meets its contract: the size is what `size_at` says, and `part` gives the part. Assumes nothing.
 use Rattle.trace.proofs.Laws.{size-inside, record_of}
 use native.Mathlib.Omega.{arith}
-use Rattle.trace.proofs.reader.record_at.Goals as goal
+use Rattle.trace.proofs.reader.view.Goals as goal
 
 pub part-requires : goal.part-requires
 part-requires c = omega (arith, c.size_at-n.ensures, (size-inside c.args.s.now c.args.at c.requires).0)
