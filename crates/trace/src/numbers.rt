@@ -27,30 +27,44 @@ pub fn bytes_at<const N: usize>(s: &[u8], at: usize) -> [u8; N]
 }
 
 /// Two bytes, the lowest first.
-#[tactic(auto, using(crate::proofs::Laws::le_two))]
+#[tactic(auto, unfolding(crate::specs::Format::number_at))]
 pub fn u16_at(s: &[u8], at: usize) -> u16
     requires { at + 2 < 2 ^ 64 }
     ensures { result ≡ u16_at s.now at }
 {
-    u16::from_le_bytes(bytes_at(s, at))
+    u16::from_le_bytes([byte_at(s, at), byte_at(s, at + 1)])
 }
 
 /// Four bytes, the lowest first.
-#[tactic(auto, using(crate::proofs::Laws::le_four))]
+#[tactic(auto, unfolding(crate::specs::Format::number_at))]
 pub fn u32_at(s: &[u8], at: usize) -> u32
     requires { at + 4 < 2 ^ 64 }
     ensures { result ≡ u32_at s.now at }
 {
-    u32::from_le_bytes(bytes_at(s, at))
+    u32::from_le_bytes([
+        byte_at(s, at),
+        byte_at(s, at + 1),
+        byte_at(s, at + 2),
+        byte_at(s, at + 3),
+    ])
 }
 
 /// Eight bytes, the lowest first.
-#[tactic(auto, using(crate::proofs::Laws::le_eight))]
+#[tactic(auto, unfolding(crate::specs::Format::number_at))]
 pub fn u64_at(s: &[u8], at: usize) -> u64
     requires { at + 8 < 2 ^ 64 }
     ensures { result ≡ u64_at s.now at }
 {
-    u64::from_le_bytes(bytes_at(s, at))
+    u64::from_le_bytes([
+        byte_at(s, at),
+        byte_at(s, at + 1),
+        byte_at(s, at + 2),
+        byte_at(s, at + 3),
+        byte_at(s, at + 4),
+        byte_at(s, at + 5),
+        byte_at(s, at + 6),
+        byte_at(s, at + 7),
+    ])
 }
 
 /// The 16 bytes of an id.
