@@ -11,7 +11,8 @@ use lib.Seq.{take-suc, take-suc-set}
 use Rattle.rules.specs.Names.{SeqNum, SessionStatus, Answer}
 use Rattle.rules.specs.Answers.{told}
 use Rattle.trace.specs.Ascii.{ascii}
-use Rattle.trace.specs.Text.{digits, decimal, colons, answer_text, status_text, expected_text, line_text, standing_text, counts_text, Adds}
+use Rattle.trace.specs.Text.{digits, decimal, colons, answer_text, status_text, expected_text, line_text, Adds, Writes}
+use Rattle.trace.specs.declared.text.Text.{Text}
 
 -- nothing is added
 pub adds_none : (l : List ℕ) (at : ℕ) → Adds l at [] 0 l at
@@ -34,28 +35,20 @@ adds-as {a} {b} {i} e p = record { is = p.is ∙ ap (λ (x : List ℕ). take i a
 pub adds-byte : (l : List ℕ) (at x : ℕ) → at < length l → Adds l at (x ∷ []) 1 (set l at x) (at + 1)
 adds-byte l at x h = record { is = rw (add-one at) (take-suc-set l at x h); room = omega arith }
 
--- ---- parts of a line
--- a second number after a colon
-pub colons-two : (w : List ℕ) (a b : ℕ) → (w ++ colons (a ∷ [])) ++ colons (b ∷ []) ≡ w ++ colons (a ∷ b ∷ [])
-colons-two w a b = simp (append_assoc, append-nil)
+-- one part after another, in a buffer that is kept
+pub writes_then : {a b c : Text} {s t : List ℕ} {m n : ℕ} → Writes a s m b → Writes b t n c → Writes a (s ++ t) (m + n) c
+writes_then p q = record { same = q.same ∙ p.same; long = q.long ∙ p.long; adds = adds_then p.adds q.adds }
+
+-- the same bytes, written another way
+pub writes-as : {a b : Text} {t u : List ℕ} {m : ℕ} → t ≡ u → Writes a t m b → Writes a u m b
+writes-as e p = record { same = p.same; long = p.long; adds = adds-as e p.adds }
 
 -- a line's fields, one after another
 pub line-parts : (index : ℕ) (x : Answer) (s : SessionStatus) (expected : Option SeqNum) (gaps outputs : ℕ)
-    → ((((decimal index ++ ascii " ") ++ answer_text (told x)) ++ ascii " ") ++ standing_text s expected) ++ counts_text gaps outputs
+    → ((((((((((decimal index ++ ascii " ") ++ answer_text (told x)) ++ ascii " ") ++ status_text s) ++ ascii " ") ++ expected_text expected) ++ ascii " ") ++ decimal gaps) ++ ascii " ") ++ decimal outputs) ++ ascii "\n"
     ≡ line_text index x s expected gaps outputs
 unfolding line_text
 line-parts index x s expected gaps outputs = simp append_assoc
-
--- the two halves of a line behind its answer
-pub standing-parts : (s : SessionStatus) (expected : Option SeqNum) → ((status_text s ++ ascii " ") ++ expected_text expected) ++ ascii " " ≡ standing_text s expected
-standing-parts s expected = simp append_assoc
-
-pub counts-parts : (gaps outputs : ℕ) → ((decimal gaps ++ ascii " ") ++ decimal outputs) ++ ascii "\n" ≡ counts_text gaps outputs
-counts-parts gaps outputs = simp append_assoc
-
--- one more element of a list
-pub take_more : (l : List ℕ) (i : ℕ) → i < length l → take (i + 1) l ≡ take i l ++ (get_or l i 0 ∷ [])
-take_more l i h = rw (add-one i) (take-suc l i 0 h)
 
 -- ---- digits
 pub digits-none : (n : ℕ) → digits 0 n ≡ []
