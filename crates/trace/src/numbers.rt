@@ -27,44 +27,30 @@ pub fn bytes_at<const N: usize>(s: &[u8], at: usize) -> [u8; N]
 }
 
 /// Two bytes, the lowest first.
-#[tactic(auto, unfolding(crate::specs::Format::number_at))]
+#[tactic(auto, using(crate::proofs::Laws::le_two))]
 pub fn u16_at(s: &[u8], at: usize) -> u16
     requires { at + 2 < 2 ^ 64 }
     ensures { result ≡ u16_at s.now at }
 {
-    u16::from_le_bytes([byte_at(s, at), byte_at(s, at + 1)])
+    u16::from_le_bytes(bytes_at(s, at))
 }
 
 /// Four bytes, the lowest first.
-#[tactic(auto, unfolding(crate::specs::Format::number_at))]
+#[tactic(auto, using(crate::proofs::Laws::le_four))]
 pub fn u32_at(s: &[u8], at: usize) -> u32
     requires { at + 4 < 2 ^ 64 }
     ensures { result ≡ u32_at s.now at }
 {
-    u32::from_le_bytes([
-        byte_at(s, at),
-        byte_at(s, at + 1),
-        byte_at(s, at + 2),
-        byte_at(s, at + 3),
-    ])
+    u32::from_le_bytes(bytes_at(s, at))
 }
 
 /// Eight bytes, the lowest first.
-#[tactic(auto, unfolding(crate::specs::Format::number_at))]
+#[tactic(auto, using(crate::proofs::Laws::le_eight))]
 pub fn u64_at(s: &[u8], at: usize) -> u64
     requires { at + 8 < 2 ^ 64 }
     ensures { result ≡ u64_at s.now at }
 {
-    u64::from_le_bytes([
-        byte_at(s, at),
-        byte_at(s, at + 1),
-        byte_at(s, at + 2),
-        byte_at(s, at + 3),
-        byte_at(s, at + 4),
-        byte_at(s, at + 5),
-        byte_at(s, at + 6),
-        byte_at(s, at + 7),
-    ])
+    u64::from_le_bytes(bytes_at(s, at))
 }
 
 /// The 16 bytes of an id.
