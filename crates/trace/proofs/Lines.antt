@@ -35,14 +35,6 @@ adds-as {a} {b} {i} e p = record { is = p.is ∙ ap (λ (x : List ℕ). take i a
 pub adds-byte : (l : List ℕ) (at x : ℕ) → at < length l → Adds l at (x ∷ []) 1 (set l at x) (at + 1)
 adds-byte l at x h = record { is = rw (add-one at) (take-suc-set l at x h); room = omega arith }
 
--- nothing is written
-pub writes_none : (t : Text) → Writes t [] 0 t
-writes_none t = record { same = refl; long = refl; adds = adds_none t.out.now t.len }
-
--- a part that leaves some of its room
-pub writes-less : {a b : Text} {t : List ℕ} {m : ℕ} (n : ℕ) → m ≤ n → Writes a t m b → Writes a t n b
-writes-less n h p = record { same = p.same; long = p.long; adds = adds-less n h p.adds }
-
 -- one part after another, in a buffer that is kept
 pub writes_then : {a b c : Text} {s t : List ℕ} {m n : ℕ} → Writes a s m b → Writes b t n c → Writes a (s ++ t) (m + n) c
 writes_then p q = record { same = q.same ∙ p.same; long = q.long ∙ p.long; adds = adds_then p.adds q.adds }

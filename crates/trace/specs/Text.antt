@@ -71,13 +71,6 @@ stop_text index = ascii "stop " ++ (decimal index ++ ascii "\n")
 abbrev pub max_line : ℕ
 max_line = 144
 
--- the two halves of a line behind its answer
-abbrev pub standing_text : SessionStatus → Option SeqNum → List ℕ
-standing_text s expected = status_text s ++ (ascii " " ++ (expected_text expected ++ ascii " "))
-
-abbrev pub counts_text : ℕ → ℕ → List ℕ
-counts_text gaps outputs = decimal gaps ++ (ascii " " ++ (decimal outputs ++ ascii "\n"))
-
 -- the first `at` bytes of a buffer stand as before, with t behind them up to r: at most `most` bytes
 pub record Adds (before : List ℕ) (at : ℕ) (t : List ℕ) (most : ℕ) (after : List ℕ) (r : ℕ) : Type 0 where
   pub is : take r after ≡ take at before ++ t
