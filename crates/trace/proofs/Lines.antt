@@ -1,11 +1,11 @@
 -- Laws of a line that is put together part by part.
 use Rattle.std.specs.Prelude.{Option}
 use Prim.Native.Nat.{ℕ, zero, suc, ◌+◌, ◌-◌, ◌/◌, ◌%◌, ◌≤◌, ◌<◌}
-use mathlib.Core.Path.{◌≡◌, refl, ap, sym, ◌∙◌}
-use mathlib.Core.List.{List, [], ◌∷◌, ◌++◌, append_assoc, append-nil}
+use mathlib.Core.Path.{◌≡◌, refl, ap, ◌∙◌}
+use mathlib.Core.List.{List, [], ◌∷◌, ◌++◌, append_assoc}
 use native.Mathlib.Numerals.{add-one}
 use native.Mathlib.Omega.{arith}
-use borrow.Author.Tests.{lt-ltb, le-ltb}
+use borrow.Author.Tests.{le-ltb}
 use lib.ListN.{length, set, take}
 use lib.Seq.{take-suc-set}
 use Rattle.rules.specs.Names.{SeqNum, SessionStatus, Answer}
@@ -13,10 +13,6 @@ use Rattle.rules.specs.Answers.{told}
 use Rattle.trace.specs.Ascii.{ascii}
 use Rattle.trace.specs.Text.{digits, decimal, answer_text, status_text, expected_text, line_text, Adds, Writes}
 use Rattle.trace.specs.declared.text.Text.{Text}
-
--- nothing is added
-pub adds_none : (l : List ℕ) (at : ℕ) → Adds l at [] 0 l at
-adds_none l at = record { is = sym (append-nil (take at l)); room = omega arith }
 
 -- one part after another
 pub adds_then : {a b c : List ℕ} {i j k : ℕ} {s t : List ℕ} {m n : ℕ} → Adds a i s m b j → Adds b j t n c k → Adds a i (s ++ t) (m + n) c k
@@ -50,16 +46,7 @@ pub line-parts : (index : ℕ) (x : Answer) (s : SessionStatus) (expected : Opti
 unfolding line_text
 line-parts index x s expected gaps outputs = simp append_assoc
 
--- ---- digits
-pub digits-none : (n : ℕ) → digits 0 n ≡ []
-unfolding digits
-digits-none n = refl
-
-pub digits-one : (k n : ℕ) → (k ≡ 0 → ⊥) → n < 10 → digits k n ≡ (48 + n) ∷ []
-unfolding digits
-digits-one zero n z h = absurd (z refl)
-digits-one (suc k) n z h = rw (lt-ltb n 10 h)
-
+-- one digit more
 pub digits_more : (k n : ℕ) → (k ≡ 0 → ⊥) → 10 ≤ n → digits k n ≡ digits (k - 1) (n / 10) ++ ((48 + n % 10) ∷ [])
 unfolding digits
 digits_more zero n z h = absurd (z refl)

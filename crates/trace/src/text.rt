@@ -37,6 +37,7 @@ pub fn refusal_number(refusal: Refusal) -> u64
 
 /// At most `k` decimal digits of `n`.
 // No method of Text: tried, and a line took 1.7 times as long, with the place stored at each digit.
+#[tactic(auto, unfolding(crate::specs::Text::digits))]
 fn push_digits(out: &mut [u8], at: usize, n: u64, k: usize) -> usize
     requires { at + k ≤ length out.old }
     ensures { Adds out.old at (digits k n) k out.new result }
