@@ -10,22 +10,8 @@ use borrow.Author.Tests.{le-leb, lt-leb, eq-eqb}
 use denote.Ref.{Bor}
 use lib.ListN.{length, get_or, set, take, drop, length-take, length-drop}
 use lib.Seq.{get_or-set_same, get_or-set_other, get_or-take, get_or-drop}
-use Rattle.std.specs.Int.{w16, w32, w64, from_le_bytes}
 use Rattle.trace.specs.Format.{number_at, bytes_at, u16_at, header, framed}
 use Rattle.trace.specs.Places.{size_at, Part, RecordAt}
-
--- the library's number of little-endian bytes is ours
-pub le_two : (s : List ℕ) (at : ℕ) → from_le_bytes w16 (bytes_at 2 s at) ≡ number_at 2 s at
-unfolding bytes_at number_at
-le_two s at = omega arith
-
-pub le_four : (s : List ℕ) (at : ℕ) → from_le_bytes w32 (bytes_at 4 s at) ≡ number_at 4 s at
-unfolding bytes_at number_at
-le_four s at = omega arith
-
-pub le_eight : (s : List ℕ) (at : ℕ) → from_le_bytes w64 (bytes_at 8 s at) ≡ number_at 8 s at
-unfolding bytes_at number_at
-le_eight s at = omega arith
 
 -- n bytes that agree with those of s from a place on are those
 pub bytes-are : (n : ℕ) (s : List ℕ) (at : ℕ) (l : List ℕ) → length l ≡ n → ((k : ℕ) → k < n → get_or l k 0 ≡ get_or s (at + k) 0) → l ≡ bytes_at n s at
