@@ -3,7 +3,7 @@ use Rattle.std.specs.Prelude.{if◌then◌else◌, Option, Some, None}
 use Rattle.std.specs.Option.{is_some, option_eq}
 use Rattle.fast.specs.Quick.{Live, Same, Sent, Idle, Header, Lost, Recovered, Asked}
 use Prim.Native.Nat.{ℕ, ◌+◌, ◌-◌, ◌<◌, ◌≤◌}
-use mathlib.Core.Path.{◌≡◌, refl, ap, sym, subst, ◌∙◌}
+use mathlib.Core.Path.{◌≡◌, refl, ap, sym, ◌∙◌}
 use mathlib.Core.Bool.{Bool, true, false, not, false≢true}
 use mathlib.Core.List.{List, [], ◌∷◌}
 use native.Mathlib.Omega.{arith}
@@ -12,24 +12,20 @@ use lib.ListN.{length}
 use borrow.Author.Tests.{le-ltb, le-leb, lt-leb, leb-true, leb-false, ne_eqb, eq-eqb, eqb-true, ltb-true, not-true}
 use Rattle.types.specs.Base.{all_ones, same_id}
 use Rattle.types.specs.Flows.{is_sequenced, is_recoverable, carries_none}
-use Rattle.types.specs.States.{is_closing, is_established, with_received}
-use Rattle.rules.specs.Names.{SeqNum, Nanotime, Instant, Reason, Binding, BindState, FlowType, Gap, Outstanding, Replay, Provider, Retransmission, RetransmitRequest}
+use Rattle.types.specs.States.{is_closing, is_established}
+use Rattle.rules.specs.Names.{SeqNum, Nanotime, Instant, Binding, BindState, FlowType, Gap, Outstanding, Replay, Provider, Retransmission, RetransmitRequest}
 use Rattle.rules.specs.Names.flow
 use Rattle.rules.specs.Names.state
-use Rattle.rules.specs.Names.peer
-use Rattle.rules.specs.Names.bound
-use Rattle.rules.specs.Names.event as ev
-use Rattle.rules.specs.State.{Sess, sess, did, stays, saying, answering, and_then, with_inbound, with_start, with_gaps, with_outstanding, with_replay, with_awaiting}
+use Rattle.rules.specs.State.{Sess, saying, answering, and_then}
 use Rattle.rules.specs.Lists.{is_nil, front_of, rest}
 use Rattle.rings.specs.declared.gaps.Gaps.{Gaps}
 use Rattle.rings.specs.View.{sound_gaps, RingWf}
 use Rattle.rings.proofs.GapLaws.{front-some, sound-wf}
 use Rattle.rings.proofs.Laws.{nil-of}
-use Rattle.rules.specs.Outputs.{event}
-use Rattle.rules.specs.Gaps.{lists, record_gap, append_gap, received_in_overflow, consume_missing, drop_first}
+use Rattle.rules.specs.Gaps.{record_gap, append_gap, received_in_overflow, consume_missing, drop_first}
 use Rattle.rules.specs.Asking.{ask, request_missing, on_retransmission, in_range, recovered, complete_outstanding, maybe_finish_receiving}
 use Rattle.rules.specs.Serving.{is_sent, serve, on_retransmit_request}
-use Rattle.rules.specs.Numbering.{Counted, progressed, on_gap, gap_recorded, on_replayed, replay_after, replayed_counted, count_delivered, complete_if, accept_replayed, next, accept_live, on_application, on_live, number_live, allocate_outbound, on_next_seq, stop_replay, announced}
+use Rattle.rules.specs.Numbering.{on_gap, gap_recorded, on_replayed, replay_after, replayed_counted, count_delivered, complete_if, on_application, on_live, number_live, allocate_outbound, on_next_seq, stop_replay, announced}
 use Rattle.rules.specs.Peer.{on_peer}
 use Rattle.rules.specs.Local.{passes, send_refused, send_application, retransmit_refused, retransmit, batch}
 use Rattle.rules.specs.Deadlines.{deadline_in, timeout_in, is_due, earlier, silence_deadline, stall_deadline, heartbeat_deadline, next_deadline, stall_if_due, heartbeat_if_due, established_timeout, on_timeout}
@@ -63,24 +59,24 @@ established-is (state.Closing d) e = absurd (false≢true e)
 -- ---- a live message
 pub live_rule : (n : SeqNum) (s : Sess) (b : Binding) → is_closing b.state ≡ false → s.awaiting_resume ≡ false → is_sequenced s.remote_flow ≡ true → is_some s.replay ≡ false → is_some s.peer_finished ≡ false → s.inbound_next ≡ Some n → (n.0 ≡ all_ones → ⊥) → Live (Some n) s b
 unfolding on_application on_live number_live
-live_rule n s b o waits sequenced p f i k = λ now stamp. go now stamp s.remote_flow refl sequenced
+live_rule n s b o waits sequenced p f i k = go s.remote_flow refl sequenced
   where
-    go : (now : Instant) (stamp : Nanotime) (x : FlowType) → s.remote_flow ≡ x → is_sequenced x ≡ true → on_application now stamp s b ≡ did (with_inbound (Some (next n)) (with_start false s)) (with_received now b) [] bound.Stay (accept_live (Some n))
-    go now stamp flow.Recoverable e y = rw (o, none-of s.replay p, none-of s.peer_finished f, e, waits, i, ne_eqb n.0 all_ones k)
-    go now stamp flow.Idempotent e y = rw (o, none-of s.replay p, none-of s.peer_finished f, e, waits, i, ne_eqb n.0 all_ones k)
-    go now stamp flow.Unsequenced e y = absurd (false≢true y)
-    go now stamp flow.None e y = absurd (false≢true y)
+    go : (x : FlowType) → s.remote_flow ≡ x → is_sequenced x ≡ true → Live (Some n) s b
+    go flow.Recoverable e y = λ now stamp. rw (o, none-of s.replay p, none-of s.peer_finished f, e, waits, i, ne_eqb n.0 all_ones k)
+    go flow.Idempotent e y = λ now stamp. rw (o, none-of s.replay p, none-of s.peer_finished f, e, waits, i, ne_eqb n.0 all_ones k)
+    go flow.Unsequenced e y = absurd (false≢true y)
+    go flow.None e y = absurd (false≢true y)
 
 -- ---- an announced number that is the expected one
 pub same_rule : (t : Bool) (n : SeqNum) (s : Sess) (b : Binding) → is_closing b.state ≡ false → s.start_pending ≡ false → is_sequenced s.remote_flow ≡ true → (n.0 ≡ 0 → ⊥) → is_some s.replay ≡ false → is_some s.peer_finished ≡ false → t ≡ option_eq (λ x y. eqb x.0 y.0) s.inbound_next (Some n) → Same t n s b
 unfolding on_peer on_next_seq stop_replay announced
-same_rule true n s b o start flow z p f e = λ now stamp reason text. go now stamp reason text s.inbound_next refl e
+same_rule true n s b o start flow z p f e = go s.inbound_next refl e
   where
-    go : (now : Instant) (stamp : Nanotime) (reason text : Reason) (x : Option SeqNum) → s.inbound_next ≡ x → true ≡ option_eq (λ x y. eqb x.0 y.0) x (Some n) → on_peer (peer.Sequence (record { next_seq_no = n })) now stamp reason text s b ≡ stays (with_awaiting false s) (with_received now b) []
-    go now stamp reason text None i y = absurd (false≢true (sym y))
-    go now stamp reason text (Some expected) i y =
+    go : (x : Option SeqNum) → s.inbound_next ≡ x → true ≡ option_eq (λ x y. eqb x.0 y.0) x (Some n) → Same true n s b
+    go None i y = absurd (false≢true (sym y))
+    go (Some expected) i y =
         let k = eqb-true expected.0 n.0 (sym y) in
-        rw (o, flow, ne_eqb n.0 0 z, none-of s.peer_finished f, none-of s.replay p, start, i, le-ltb n.0 expected.0 (omega (arith, k)), eq-eqb n.0 expected.0 (sym k))
+        λ now stamp reason text. rw (o, flow, ne_eqb n.0 0 z, none-of s.peer_finished f, none-of s.replay p, start, i, le-ltb n.0 expected.0 (omega (arith, k)), eq-eqb n.0 expected.0 (sym k))
 same_rule false n s b o start flow z p f e = tt
 
 -- ---- a message sent in sequence
@@ -137,36 +133,10 @@ only_one l g e n =
     let o = front-some l g e in
     o ∙ ap (λ (u : List Gap). g ∷ u) (nil-of (rest l) (omega (arith, sym n ∙ ap length o)))
 
--- what is to be shown of a session s, whose batch ends with the number n
-abbrev pub Recovers : SeqNum → Instant → Nanotime → Binding → Sess → Type 0
-Recovers n now stamp b s = on_application now stamp s b ≡ did (with_replay None (with_gaps (lists [] []) (with_outstanding None s))) (with_received now b) (event ev.RecoveryComplete ∷ []) bound.Stay (accept_replayed n)
-
--- the fields that it looks at in their places
-abbrev pub recovering : Replay → Outstanding → Gap → Sess → Sess
-recovering r o g s = sess s.id s.local_flow s.remote_flow s.config s.outbound_next s.inbound_next s.start_pending (lists (g ∷ []) []) (Some o) (Some r) s.awaiting_resume s.provider None s.finalized
-
-module _ (now : Instant) (stamp : Nanotime) (r : Replay) (o : Outstanding) (g : Gap) (s : Sess) (b : Binding) where
-  -- the message is the batch's last
-  arrives : is_established b.state ≡ true → eqb r.next.0 all_ones ≡ false → on_application now stamp (recovering r o g s) b ≡ replayed_counted now stamp r.next (count_delivered now (leb r.remaining 1) (with_replay (replay_after r) (recovering r o g s))) (with_received now b)
-  unfolding on_application on_replayed
-  arrives e k = rw (established-is b.state e, k)
-
-  -- with it the request is answered in full
-  counts : leb r.remaining 1 ≡ true → eqb o.delivered 4294967295 ≡ false → leb o.count (o.delivered + 1) ≡ true → count_delivered now (leb r.remaining 1) (with_replay (replay_after r) (recovering r o g s)) ≡ record { session = with_outstanding (Some (progressed now true o)) (with_replay None (recovering r o g s)); complete = true }
-  unfolding count_delivered replay_after
-  counts last d full = rw (last, d, full)
-
-  -- and its count takes the whole gap
-  finishes : eqb o.count 0 ≡ false → ltb (g.from.0 + o.count) g.end.0 ≡ false → replayed_counted now stamp r.next (record { session = with_outstanding (Some (progressed now true o)) (with_replay None (recovering r o g s)); complete = true }) (with_received now b) ≡ did (with_replay None (with_gaps (lists [] []) (with_outstanding None (recovering r o g s)))) (with_received now b) (event ev.RecoveryComplete ∷ []) bound.Stay (accept_replayed r.next)
-  unfolding replayed_counted received_in_overflow complete_if complete_outstanding recovered maybe_finish_receiving consume_missing drop_first saying answering
-  finishes z w = rw (z, w)
-
 pub recovered_rule : (r : Replay) (o : Outstanding) (g : Gap) (s : Sess) (b : Binding) → is_established b.state ≡ true → is_some s.peer_finished ≡ false → s.replay ≡ Some r → r.remaining ≤ 1 → (r.next.0 ≡ all_ones → ⊥) → s.outstanding ≡ Some o → (o.delivered ≡ 4294967295 → ⊥) → (o.count ≡ 0 → ⊥) → o.count ≤ o.delivered + 1 → length s.gaps.overflow_received ≡ 0 → length s.gaps.missing ≡ 1 → front_of s.gaps.missing ≡ Some g → g.end.0 - g.from.0 ≤ o.count → Recovered (Some r.next) s b
+unfolding on_application on_replayed count_delivered replay_after replayed_counted received_in_overflow complete_if complete_outstanding recovered maybe_finish_receiving consume_missing drop_first saying answering
 recovered_rule r o g s b e f p last k out d z full runs one first w =
-    λ now stamp.
-    let is : s ≡ recovering r o g s = λ i. sess s.id s.local_flow s.remote_flow s.config s.outbound_next s.inbound_next s.start_pending (lists (only_one s.gaps.missing g first one i) (nil-of s.gaps.overflow_received runs i)) (out i) (p i) s.awaiting_resume s.provider (none-of s.peer_finished f i) s.finalized in
-    subst (Recovers r.next now stamp b) (sym is)
-    (arrives now stamp r o g s b e (ne_eqb r.next.0 all_ones k) ∙ ap (λ (c : Counted). replayed_counted now stamp r.next c (with_received now b)) (counts now stamp r o g s b (le-leb r.remaining 1 last) (ne_eqb o.delivered 4294967295 d) (le-leb o.count (o.delivered + 1) full)) ∙ finishes now stamp r o g s b (ne_eqb o.count 0 z) (le-ltb (g.from.0 + o.count) g.end.0 (omega (arith, w))))
+    λ now stamp. rw (established-is b.state e, p, ne_eqb r.next.0 all_ones k, le-leb r.remaining 1 last, out, ne_eqb o.delivered 4294967295 d, le-leb o.count (o.delivered + 1) full, nil-of s.gaps.overflow_received runs, only_one s.gaps.missing g first one, ne_eqb o.count 0 z, le-ltb (g.from.0 + o.count) g.end.0 (omega (arith, w)), none-of s.peer_finished f)
 
 -- ---- serving
 pub asked_rule : (t : Bool) (m : RetransmitRequest) (s : Sess) (b : Binding) → is_established b.state ≡ true → is_recoverable s.local_flow ≡ true → same_id m.session_id s.id ≡ true → is_some s.provider ≡ false → (m.count ≡ 0 → ⊥) → m.count ≤ s.config.max_retransmit_count → (m.from_seq_no.0 ≡ 0 → ⊥) → m.from_seq_no.0 ≤ s.outbound_next.0 → t ≡ leb m.count (s.outbound_next.0 - m.from_seq_no.0) → Asked t m s b

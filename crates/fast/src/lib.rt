@@ -11,7 +11,7 @@ use session::Session;
 use types::binding::Binding;
 use types::ids::{ALL_ONES, Instant, Nanotime, SeqNum};
 use types::messages::{Retransmission, RetransmitRequest};
-use types::parts::{Gap, Outstanding, PeerFinished, Provider, Replay};
+use types::parts::{Gap, Outstanding, Provider};
 use types::reasons::Reason;
 
 /// Whether the record is good and its queue empty, so that neither refusal 1 nor 7 comes.
