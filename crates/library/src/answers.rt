@@ -1,10 +1,11 @@
 //! An answer as numbers, by 01's own (`rules/specs/Answers`).
 ghost use Rattle.std.specs.Prelude.{◌≡◌, Ok};
 ghost use Rattle.rules.specs.Names.verdict;
-ghost use Rattle.library.specs.Parts.{no_number};
-ghost use Rattle.library.specs.Answers.{numbered_reply, carrying_reply, refusal_out, answer_out};
+ghost use Rattle.rules.specs.Answers.{refusal_values};
+ghost use Rattle.library.specs.Answers.{first_of, second_of, numbered_reply, refusal_out, answer_out};
 
 use crate::mirror::{Number, Reply};
+use trace::text::refusal_number;
 use types::answers::{Delivery, Refusal, Verdict};
 
 /// An answer of that kind with that number, of which nothing else speaks.
@@ -20,23 +21,18 @@ pub fn numbered(kind: u8, number: Number) -> Reply
     }
 }
 
-/// A refusal that carries nothing.
-fn bare(refusal: u8) -> Reply
-    ensures { result ≡ carrying_reply refusal 0 0 }
+/// What a refusal carries: 8 operation and status, 13 both counts, 14 both lengths.
+fn carried(refusal: Refusal) -> (u64, u64)
+    ensures first { result.0 ≡ first_of (refusal_values refusal) }
+    ensures second { result.1 ≡ second_of (refusal_values refusal) }
 {
-    carrying(refusal, 0, 0)
-}
-
-/// A refusal that carries two numbers.
-fn carrying(refusal: u8, first: u64, second: u64) -> Reply
-    ensures { result ≡ carrying_reply refusal first second }
-{
-    Reply {
-        kind: 7,
-        refusal,
-        number: Number::default(),
-        first,
-        second,
+    match refusal {
+        Refusal::InvalidState { operation, status } => (operation as u64, status as u64),
+        Refusal::RetransmissionOverrun { count, remaining } => {
+            (u64::from(count), u64::from(remaining))
+        }
+        Refusal::ReasonTooLong { len, max } => (len as u64, max as u64),
+        _ => (0, 0),
     }
 }
 
@@ -44,25 +40,13 @@ impl From<Refusal> for Reply {
     ghost from_gives = { λ x r. r ≡ refusal_out x };
 
     fn from(refusal: Refusal) -> Reply {
-        match refusal {
-            Refusal::BadRecord => bare(1),
-            Refusal::BadConfig => bare(2),
-            Refusal::NotBound => bare(3),
-            Refusal::AlreadyBound => bare(4),
-            Refusal::BadMessage => bare(5),
-            Refusal::ZeroCount => bare(6),
-            Refusal::OutputFull => bare(7),
-            Refusal::InvalidState { operation, status } => {
-                carrying(8, operation as u64, status as u64)
-            }
-            Refusal::FinishedReceivingSent => bare(9),
-            Refusal::FlowCarriesNoApplicationMessages => bare(10),
-            Refusal::SequenceExhausted => bare(11),
-            Refusal::NoRetransmissionInProgress => bare(12),
-            Refusal::RetransmissionOverrun { count, remaining } => {
-                carrying(13, u64::from(count), u64::from(remaining))
-            }
-            Refusal::ReasonTooLong { len, max } => carrying(14, len as u64, max as u64),
+        let (first, second) = carried(refusal);
+        Reply {
+            kind: 7,
+            refusal: refusal_number(refusal),
+            number: Number::default(),
+            first,
+            second,
         }
     }
 }

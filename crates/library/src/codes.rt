@@ -11,7 +11,7 @@ use types::output::TerminatedBy;
 pub fn listed(code: u8, last: u8) -> bool
     ensures { result ≡ is_listed code last }
 {
-    1 <= code && code <= last
+    (1..=last).contains(&code)
 }
 
 pub fn flow_in(code: u8) -> FlowType
@@ -56,5 +56,5 @@ pub fn name_in(kind: u8) -> MessageName
 pub fn is_name(kind: u8) -> bool
     ensures { result ≡ is_name_number kind }
 {
-    kind == 4 || 32 <= kind && kind <= 44
+    matches!(kind, 4 | 32..=44)
 }
