@@ -1,9 +1,8 @@
 -- How a call's answer follows from its tests: a bad record, no binding, no room, and else the step.
-use Rattle.std.specs.Prelude.{Option, Some, None, Ok, Err, is_some}
-use Rattle.std.specs.Option.{ok_or}
+use Rattle.std.specs.Prelude.{Option, Some, Ok, Err}
 use Prim.Native.Nat.{ℕ, ◌≤◌}
 use mathlib.Core.Path.{◌≡◌, refl, ap, sym, ◌∙◌}
-use mathlib.Core.Bool.{true, false, not, ◌&&◌, true≢false, false≢true}
+use mathlib.Core.Bool.{true, false, ◌&&◌, true≢false, false≢true}
 use native.Mathlib.Omega.{arith}
 use lib.ListN.{length}
 use lib.Dec.{leb, ltb}
@@ -16,7 +15,7 @@ use Rattle.rules.specs.Names.refusal
 use Rattle.rules.specs.State.{Sess, Did}
 use Rattle.rules.specs.Gaps.{max_gaps, max_runs}
 use Rattle.rules.specs.Local.{Refused, passes, refuses, unless, terminate}
-use Rattle.rules.specs.Calls.{World, Ran, ran_as, link_after, is_bound, if_bound, within, config_fits, sound, texts_fit, max_outs}
+use Rattle.rules.specs.Calls.{World, Ran, ran_as, link_after, within, config_fits, sound, texts_fit, max_outs}
 use Rattle.rings.specs.View.{sound_gaps, list_of}
 use Rattle.rings.proofs.GapLaws.{sound-wf}
 use Rattle.rings.proofs.GapLaws as gaps
@@ -26,7 +25,7 @@ use Rattle.queue.proofs.Laws.{and_left, and_right, sound-outs, outs-length}
 use Rattle.session.specs.View.{SessWf, StepIs, After, LocalIs, refused_step}
 use Rattle.session.specs.declared.Session.{Session}
 use Rattle.session.specs.declared.Step.{Step}
-use Rattle.calls.specs.View.{world_of, good_record, next_of, Ready, Done, Unchanged, AnsweredBy, of_good, called_of}
+use Rattle.calls.specs.View.{world_of, good_record, Ready, Unchanged, AnsweredBy, of_good, called_of}
 use Rattle.types.specs.Answers.{is_refused}
 use Rattle.calls.specs.declared.Called.{Called}
 
@@ -34,24 +33,24 @@ use Rattle.calls.specs.declared.Called.{Called}
 -- a configuration in its range allows few enough gaps that one more has a place
 pub config-pending : (g : FixpConfig) → config_fits g ≡ true → g.max_pending_gaps ≤ 64
 unfolding config_fits
-config-pending g e = leb-true g.max_pending_gaps 64 (and_right (leb 1 g.max_gap_len && leb 1 g.max_retransmit_count && leb 1 g.max_pending_gaps) (leb g.max_pending_gaps 64) e)
+config-pending g e = leb-true _ _ (and_right _ _ e)
 
 module _ (s : Session) (l : Link) (q : Outputs) (e : good_record s l q ≡ true) where
-  config-ok : config_fits s.config ≡ true
+  outs-ok : sound_outs q ≡ true
   unfolding good_record
-  config-ok = and_left (config_fits s.config) (sound_gaps s.gaps) (and_left (config_fits s.config && sound_gaps s.gaps) (reason_fits l.reason) (and_left (config_fits s.config && sound_gaps s.gaps && reason_fits l.reason) (sound_outs q) e))
-
-  gaps-ok : sound_gaps s.gaps ≡ true
-  unfolding good_record
-  gaps-ok = and_right (config_fits s.config) (sound_gaps s.gaps) (and_left (config_fits s.config && sound_gaps s.gaps) (reason_fits l.reason) (and_left (config_fits s.config && sound_gaps s.gaps && reason_fits l.reason) (sound_outs q) e))
+  outs-ok = and_right _ _ e
 
   reason-ok : reason_fits l.reason ≡ true
   unfolding good_record
-  reason-ok = and_right (config_fits s.config && sound_gaps s.gaps) (reason_fits l.reason) (and_left (config_fits s.config && sound_gaps s.gaps && reason_fits l.reason) (sound_outs q) e)
+  reason-ok = and_right _ _ (and_left _ _ e)
 
-  outs-ok : sound_outs q ≡ true
+  gaps-ok : sound_gaps s.gaps ≡ true
   unfolding good_record
-  outs-ok = and_right (config_fits s.config && sound_gaps s.gaps && reason_fits l.reason) (sound_outs q) e
+  gaps-ok = and_right _ _ (and_left _ _ (and_left _ _ e))
+
+  config-ok : config_fits s.config ≡ true
+  unfolding good_record
+  config-ok = and_left _ _ (and_left _ _ (and_left _ _ e))
 
   -- what the steps ask of a session and of a queue
   pub good-queue : OutsWf q
@@ -82,22 +81,8 @@ pub of-bad : (s : Session) (l : Link) (q : Outputs) (x : Refused) → good_recor
 of-bad s l q x e = rw e
 
 -- ---- the binding
--- 4, and where it does not refuse
-pub taken : (b : Option Binding) (rest : Refused) → is_some b ≡ true → unless (not (is_bound b)) refusal.AlreadyBound rest ≡ refuses refusal.AlreadyBound
-taken None rest e = absurd (false≢true e)
-taken (Some b) rest e = refl
-
-pub untaken : (b : Option Binding) (rest : Refused) → is_some b ≡ false → unless (not (is_bound b)) refusal.AlreadyBound rest ≡ rest
-untaken None rest e = refl
-untaken (Some b) rest e = absurd (true≢false e)
-
 pub within-bound : (w : World) (b : Option Binding) (x : Binding) (k : Binding → Did) (reason : Reason) → b ≡ Some x → within w b k reason ≡ ran_as w.queue reason (k x)
 within-bound w b x k reason e = rw e
-
--- 3: the binding, or none
-pub bound-or : (b : Option Binding) (k : Binding → Refused) → if_bound b k ≡ next_of (ok_or b refusal.NotBound) k
-bound-or None k = refl
-bound-or (Some b) k = refl
 
 -- ---- the answer
 pub answer-refused : {r : Called} {x : Refusal} {s : Session} {l : Link} {q : Outputs} (f : Refused) (m : Ran) → f ≡ refuses x → Unchanged r x s l q → AnsweredBy f r m s l q
@@ -150,12 +135,3 @@ terminated-answers now code.Finished text s b = refl
 terminated-answers now code.UnspecifiedError text s b = refl
 terminated-answers now code.ReRequestOutOfBounds text s b = refl
 terminated-answers now code.ReRequestInProgress text s b = refl
-
--- a refused call as what it stands for
-pub refused-done : (r : Called) (x : Refusal) (s : Session) (l : Link) (q : Outputs) (w : World) → Unchanged r x s l q → SessWf s → OutsWf q → world_of s l q ≡ w → Done r (record { world = w; answer = Err x })
-refused-done r x s l q w u hs hq e =
-    record {
-      session = rw u.session hs;
-      queue = rw u.queue hq;
-      is = (λ i. record { world = world_of (u.session i) (u.link i) (u.queue i); answer = u.answer i }) ∙ ap (λ (v : World). record { world = v; answer = Err x }) e;
-    }
