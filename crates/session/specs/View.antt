@@ -1,5 +1,5 @@
 -- What a session and a step stand for in the rule book, and when a session is in order.
-use Rattle.std.specs.Prelude.{◌≤◌, ◌≡◌, if◌then◌else◌, Option, Some, None, Ok, Err}
+use Rattle.std.specs.Prelude.{ℕ, ◌+◌, length, ◌≤◌, ◌≡◌, if◌then◌else◌, Option, Some, None, Ok, Err}
 use Rattle.types.specs.Flows.{is_sequenced}
 use Rattle.rules.specs.Names.{FlowType, SeqNum, PeerMessage, Binding, Bound, Answer}
 use Rattle.rules.specs.Names.verdict
@@ -29,6 +29,17 @@ view s =
 pub record SessWf (s : Session) : Type 0 where
   pub gaps : GapsWf s.gaps
   pub pending : s.config.max_pending_gaps ≤ 64
+
+-- what a step asks for: rings in order
+pub record InOrder (s : Session) (q : Outputs) : Type 0 where
+  pub session : SessWf s
+  pub queue : OutsWf q
+
+-- and places for the k outputs that it may add
+pub record Ready (k : ℕ) (s : Session) (q : Outputs) : Type 0 where
+  pub session : SessWf s
+  pub queue : OutsWf q
+  pub room : length (queue_of q).outs + k ≤ 32
 
 -- r is in order, and stands for m
 pub record SessIs (r : Session) (m : Sess) : Type 0 where

@@ -3,7 +3,7 @@ ghost use Rattle.std.specs.Prelude.{◌≡◌, ◌+◌, ◌-◌, ◌<◌, ◌≤
 ghost use Rattle.queue.specs.View.{queue_of, OutsWf};
 ghost use Rattle.rules.specs.Ending.{consumed};
 ghost use Rattle.rules.specs.Asking.{is_outstanding, unasked, fewer, ask, request_missing, maybe_finish_receiving, recovered, completed_at, complete_outstanding, in_range, begin_batch, on_retransmission, on_retransmit_reject, rejected, re_request};
-ghost use Rattle.session.specs.View.{view, SessWf, SessIs, StepIs};
+ghost use Rattle.session.specs.View.{view, SessWf, SessIs, StepIs, InOrder, Ready};
 
 use crate::{Session, Step};
 use queue::Outputs;
@@ -40,9 +40,7 @@ impl Session {
         stamp: Nanotime,
         gap: Gap,
     ) -> Step
-        requires sess_wf { SessWf self }
-        requires outs_wf { OutsWf queue }
-        requires queue_len_bound { length (queue_of queue).outs + 1 ≤ 32 }
+        requires ready { Ready 1 self queue }
         requires from_lt_end { gap.from.0 < gap.end.0 }
         ensures { StepIs result (queue_of queue) (ask now stamp gap (view self) binding) }
     {
@@ -84,9 +82,7 @@ impl Session {
         now: Instant,
         stamp: Nanotime,
     ) -> Step
-        requires sess_wf { SessWf self }
-        requires outs_wf { OutsWf queue }
-        requires queue_len_bound { length (queue_of queue).outs + 3 ≤ 32 }
+        requires { Ready 3 self queue }
         ensures { StepIs result (queue_of queue) (request_missing now stamp (view self) binding) }
     {
         if !binding.is_established() {
@@ -112,9 +108,7 @@ impl Session {
 
     /// Sends FinishedReceiving once the peer has finished and no gap is still being recovered (FIXP 4.7.2).
     pub fn maybe_finish_receiving(mut self, binding: Binding, queue: Outputs) -> Step
-        requires sess_wf { SessWf self }
-        requires outs_wf { OutsWf queue }
-        requires queue_len_bound { length (queue_of queue).outs + 1 ≤ 32 }
+        requires { Ready 1 self queue }
         ensures { StepIs result (queue_of queue) (maybe_finish_receiving (view self) binding) }
     {
         let mut leaving = binding;
@@ -146,9 +140,7 @@ impl Session {
 
     /// A request is over: the next gap is asked for, or recovery is complete.
     fn recovered(self, binding: Binding, queue: Outputs, now: Instant, stamp: Nanotime) -> Step
-        requires sess_wf { SessWf self }
-        requires outs_wf { OutsWf queue }
-        requires queue_len_bound { length (queue_of queue).outs + 3 ≤ 32 }
+        requires { Ready 3 self queue }
         ensures { StepIs result (queue_of queue) (recovered now stamp (view self) binding) }
     {
         if self.gaps.is_empty() {
@@ -178,9 +170,7 @@ impl Session {
         now: Instant,
         stamp: Nanotime,
     ) -> Step
-        requires sess_wf { SessWf self }
-        requires outs_wf { OutsWf queue }
-        requires queue_len_bound { length (queue_of queue).outs + 3 ≤ 32 }
+        requires { Ready 3 self queue }
         ensures { StepIs result (queue_of queue) (complete_outstanding now stamp (view self) binding) }
     {
         let mut session = self.consume_outstanding();
@@ -197,8 +187,7 @@ impl Session {
         message: Retransmission,
         outstanding: Outstanding,
     ) -> Step
-        requires sess_wf { SessWf self }
-        requires outs_wf { OutsWf queue }
+        requires { InOrder self queue }
         ensures { StepIs result (queue_of queue) (begin_batch now message outstanding (view self) binding) }
     {
         self.replay = Some(Replay {
@@ -223,9 +212,7 @@ impl Session {
         now: Instant,
         message: Retransmission,
     ) -> Step
-        requires sess_wf { SessWf self }
-        requires outs_wf { OutsWf queue }
-        requires queue_len_bound { length (queue_of queue).outs + 4 ≤ 32 }
+        requires { Ready 4 self queue }
         ensures { StepIs result (queue_of queue) (on_retransmission now message (view self) binding) }
     {
         if !self.remote_flow.is_recoverable() {
@@ -257,9 +244,7 @@ impl Session {
         text: Reason,
         outstanding: Outstanding,
     ) -> Step
-        requires sess_wf { SessWf self }
-        requires outs_wf { OutsWf queue }
-        requires queue_len_bound { length (queue_of queue).outs + 4 ≤ 32 }
+        requires { Ready 4 self queue }
         ensures { StepIs result (queue_of queue) (rejected now stamp message text outstanding (view self) binding) }
     {
         let told = queue.event_quoting(
@@ -286,9 +271,7 @@ impl Session {
         message: RetransmitReject,
         text: Reason,
     ) -> Step
-        requires sess_wf { SessWf self }
-        requires outs_wf { OutsWf queue }
-        requires queue_len_bound { length (queue_of queue).outs + 4 ≤ 32 }
+        requires { Ready 4 self queue }
         ensures { StepIs result (queue_of queue) (on_retransmit_reject now stamp message text (view self) binding) }
     {
         let Some(outstanding) = self.outstanding else {
@@ -305,9 +288,7 @@ impl Session {
 
     /// A RetransmitReject that answers no request of ours.
     fn ignore_reject(self, binding: Binding, queue: Outputs) -> Step
-        requires sess_wf { SessWf self }
-        requires outs_wf { OutsWf queue }
-        requires queue_len_bound { length (queue_of queue).outs + 1 ≤ 32 }
+        requires { Ready 1 self queue }
         ensures { StepIs result (queue_of queue) (unasked (view self) binding) }
     {
         let told = queue.ignore(MessageName::RetransmitReject, REJECT_UNASKED);
@@ -323,9 +304,7 @@ impl Session {
         stamp: Nanotime,
         outstanding: Outstanding,
     ) -> Step
-        requires sess_wf { SessWf self }
-        requires outs_wf { OutsWf queue }
-        requires queue_len_bound { length (queue_of queue).outs + 3 ≤ 32 }
+        requires { Ready 3 self queue }
         ensures { StepIs result (queue_of queue) (re_request now stamp outstanding (view self) binding) }
     {
         self.outstanding = None;

@@ -2,7 +2,7 @@
 ghost use Rattle.std.specs.Prelude.{◌≡◌, ◌+◌, ◌≤◌, length};
 ghost use Rattle.queue.specs.View.{queue_of, OutsWf};
 ghost use Rattle.rules.specs.Binding.{established, resume, established_at, on_established, bind};
-ghost use Rattle.session.specs.View.{view, SessWf, StepIs};
+ghost use Rattle.session.specs.View.{view, StepIs, Ready};
 
 use crate::{Session, Step};
 use queue::Outputs;
@@ -34,9 +34,7 @@ impl Session {
         remote_keepalive: u64,
         next: Option<SeqNum>,
     ) -> Step
-        requires sess_wf { SessWf self }
-        requires outs_wf { OutsWf queue }
-        requires queue_len_bound { length (queue_of queue).outs + 6 ≤ 32 }
+        requires { Ready 6 self queue }
         ensures { StepIs result (queue_of queue) (bind now stamp local_keepalive remote_keepalive next (view self)) }
     {
         let released = self.release_binding_state();
@@ -53,9 +51,7 @@ impl Session {
         now: Instant,
         stamp: Nanotime,
     ) -> Step
-        requires sess_wf { SessWf self }
-        requires outs_wf { OutsWf queue }
-        requires queue_len_bound { length (queue_of queue).outs + 6 ≤ 32 }
+        requires { Ready 6 self queue }
         ensures { StepIs result (queue_of queue) (on_established next now stamp (view self) binding) }
     {
         if !self.remote_flow.is_sequenced() {
@@ -73,9 +69,7 @@ impl Session {
 
     /// What an earlier binding left missing is asked for again.
     fn resume(self, binding: Binding, queue: Outputs, now: Instant, stamp: Nanotime) -> Step
-        requires sess_wf { SessWf self }
-        requires outs_wf { OutsWf queue }
-        requires queue_len_bound { length (queue_of queue).outs + 3 ≤ 32 }
+        requires { Ready 3 self queue }
         ensures { StepIs result (queue_of queue) (resume now stamp (view self) binding) }
     {
         let step = self.request_missing(binding, queue, now, stamp);

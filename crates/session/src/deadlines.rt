@@ -2,7 +2,7 @@
 ghost use Rattle.std.specs.Prelude.{◌≡◌, ◌+◌, ◌≤◌, length};
 ghost use Rattle.queue.specs.View.{queue_of, OutsWf};
 ghost use Rattle.rules.specs.Deadlines.{grace_or, silence_deadline, stall_deadline, heartbeat_deadline, next_deadline, heartbeat_if_due, wait_out, stall_by, on_stall, stall_if_due, established_timeout, on_timeout};
-ghost use Rattle.session.specs.View.{view, SessWf, StepIs};
+ghost use Rattle.session.specs.View.{view, StepIs, InOrder, Ready};
 
 use crate::{Session, Step};
 use queue::Outputs;
@@ -113,9 +113,7 @@ impl Session {
         stamp: Nanotime,
         reason: Reason,
     ) -> Step
-        requires sess_wf { SessWf self }
-        requires outs_wf { OutsWf queue }
-        requires queue_len_bound { length (queue_of queue).outs + 4 ≤ 32 }
+        requires { Ready 4 self queue }
         ensures { StepIs result (queue_of queue) (on_timeout now stamp reason (view self) binding) }
     {
         match binding.state {
@@ -154,9 +152,7 @@ impl Session {
         now: Instant,
         stamp: Nanotime,
     ) -> Step
-        requires sess_wf { SessWf self }
-        requires outs_wf { OutsWf queue }
-        requires queue_len_bound { length (queue_of queue).outs + 4 ≤ 32 }
+        requires { Ready 4 self queue }
         ensures { StepIs result (queue_of queue) (established_timeout now stamp (view self) binding) }
     {
         let silence = self.silence_deadline(binding);
@@ -173,9 +169,7 @@ impl Session {
 
     /// The request in flight may have stalled.
     fn stall_if_due(self, binding: Binding, queue: Outputs, now: Instant, stamp: Nanotime) -> Step
-        requires sess_wf { SessWf self }
-        requires outs_wf { OutsWf queue }
-        requires queue_len_bound { length (queue_of queue).outs + 4 ≤ 32 }
+        requires { Ready 4 self queue }
         ensures { StepIs result (queue_of queue) (stall_if_due now stamp (view self) binding) }
     {
         let stall = self.stall_deadline();
@@ -197,9 +191,7 @@ impl Session {
         stamp: Nanotime,
         outstanding: Outstanding,
     ) -> Step
-        requires sess_wf { SessWf self }
-        requires outs_wf { OutsWf queue }
-        requires queue_len_bound { length (queue_of queue).outs + 4 ≤ 32 }
+        requires { Ready 4 self queue }
         ensures { StepIs result (queue_of queue) (on_stall now stamp outstanding (view self) binding) }
     {
         let told = queue.event(Event::RetransmitTimedOut {
@@ -218,9 +210,7 @@ impl Session {
         stamp: Nanotime,
         outstanding: Outstanding,
     ) -> Step
-        requires sess_wf { SessWf self }
-        requires outs_wf { OutsWf queue }
-        requires queue_len_bound { length (queue_of queue).outs + 3 ≤ 32 }
+        requires { Ready 3 self queue }
         ensures { StepIs result (queue_of queue) (stall_by (view self).config.retransmit_stall_policy now stamp outstanding (view self) binding) }
     {
         match self.config.retransmit_stall_policy {
@@ -251,8 +241,7 @@ impl Session {
 
     /// The stall is reported and waited out.
     fn wait_out(mut self, binding: Binding, queue: Outputs, outstanding: Outstanding) -> Step
-        requires sess_wf { SessWf self }
-        requires outs_wf { OutsWf queue }
+        requires { InOrder self queue }
         ensures { StepIs result (queue_of queue) (wait_out outstanding (view self) binding) }
     {
         let mut reported = outstanding;
@@ -263,9 +252,7 @@ impl Session {
 
     /// A heartbeat, if this side has been quiet for its keepalive.
     fn heartbeat_if_due(self, binding: Binding, queue: Outputs, now: Instant) -> Step
-        requires sess_wf { SessWf self }
-        requires outs_wf { OutsWf queue }
-        requires queue_len_bound { length (queue_of queue).outs + 1 ≤ 32 }
+        requires { Ready 1 self queue }
         ensures { StepIs result (queue_of queue) (heartbeat_if_due now (view self) binding) }
     {
         let beat = heartbeat_deadline(binding);
@@ -277,9 +264,7 @@ impl Session {
 
     /// The heartbeat of this side's flow (FIXP 4.5).
     fn heartbeat(self, binding: Binding, queue: Outputs, now: Instant) -> Step
-        requires sess_wf { SessWf self }
-        requires outs_wf { OutsWf queue }
-        requires queue_len_bound { length (queue_of queue).outs + 1 ≤ 32 }
+        requires { Ready 1 self queue }
         ensures { StepIs result (queue_of queue) (Rattle.rules.specs.Deadlines.heartbeat now (view self) binding) }
     {
         let mut kept = binding;

@@ -2,7 +2,7 @@
 ghost use Rattle.std.specs.Prelude.{◌≡◌, ◌&&◌, ◌+◌, ◌≤◌, length};
 ghost use Rattle.queue.specs.View.{queue_of, OutsWf};
 ghost use Rattle.rules.specs.Ending.{consumed, released_at, release_binding_state, finished_receiving_sent, finalize_if_finished, fail, violation, ended_by, answer_terminate, answered_terminate, on_terminate};
-ghost use Rattle.session.specs.View.{view, SessWf, SessIs, StepIs};
+ghost use Rattle.session.specs.View.{view, SessWf, SessIs, StepIs, Ready};
 
 use crate::{Session, Step};
 use queue::Outputs;
@@ -71,9 +71,7 @@ impl Session {
 
     /// The peer broke the protocol: terminate (FIXP 6.3).
     pub fn violation(self, binding: Binding, queue: Outputs, reason: u8) -> Step
-        requires sess_wf { SessWf self }
-        requires outs_wf { OutsWf queue }
-        requires queue_len_bound { length (queue_of queue).outs + 4 ≤ 32 }
+        requires { Ready 4 self queue }
         ensures { StepIs result (queue_of queue) (violation reason (view self) binding) }
     {
         let told = queue.event_with(Event::ProtocolViolation, reason);
@@ -82,9 +80,7 @@ impl Session {
 
     /// Ends the binding on an error, without waiting for an answer (FIXP, Appendix A 7.2.1).
     pub fn fail(self, binding: Binding, queue: Outputs, code: TerminationCode, reason: u8) -> Step
-        requires sess_wf { SessWf self }
-        requires outs_wf { OutsWf queue }
-        requires queue_len_bound { length (queue_of queue).outs + 3 ≤ 32 }
+        requires { Ready 3 self queue }
         ensures { StepIs result (queue_of queue) (fail code reason (view self) binding) }
     {
         let released = self.release_binding_state();
@@ -131,9 +127,7 @@ impl Session {
         ours: TerminationCode,
         theirs: TerminationCode,
     ) -> Step
-        requires sess_wf { SessWf self }
-        requires outs_wf { OutsWf queue }
-        requires queue_len_bound { length (queue_of queue).outs + 2 ≤ 32 }
+        requires { Ready 2 self queue }
         ensures { StepIs result (queue_of queue) (answered_terminate reason ours theirs (view self) binding) }
     {
         let told = queue.event_quoting(
@@ -158,9 +152,7 @@ impl Session {
         message: Terminate,
         text: Reason,
     ) -> Step
-        requires sess_wf { SessWf self }
-        requires outs_wf { OutsWf queue }
-        requires queue_len_bound { length (queue_of queue).outs + 2 ≤ 32 }
+        requires { Ready 2 self queue }
         ensures { StepIs result (queue_of queue) (answer_terminate now message text (view self) binding) }
     {
         let sent = queue.send(SessionMessage::Terminate(Terminate {
@@ -192,9 +184,7 @@ impl Session {
         message: Terminate,
         text: Reason,
     ) -> Step
-        requires sess_wf { SessWf self }
-        requires outs_wf { OutsWf queue }
-        requires queue_len_bound { length (queue_of queue).outs + 4 ≤ 32 }
+        requires { Ready 4 self queue }
         ensures { StepIs result (queue_of queue) (on_terminate now reason message text (view self) binding) }
     {
         if message.session_id != self.id {

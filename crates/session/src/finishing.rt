@@ -3,7 +3,7 @@ ghost use Rattle.std.specs.Prelude.{◌≡◌, ◌+◌, ◌≤◌, ◌<◌, leng
 ghost use Rattle.queue.specs.View.{queue_of, OutsWf};
 ghost use Rattle.types.specs.Base.{all_ones};
 ghost use Rattle.rules.specs.Finishing.{finished_with, below, last_at, finished_sending, on_finished_sending};
-ghost use Rattle.session.specs.View.{view, SessWf, StepIs};
+ghost use Rattle.session.specs.View.{view, StepIs, Ready};
 
 use crate::{Session, Step};
 use queue::Outputs;
@@ -17,9 +17,7 @@ use types::reasons::{FINISHED_FOREIGN, FINISHED_NO_LAST, LAST_BELOW, LAST_OUT_OF
 impl Session {
     /// The peer has finished, its numbers ending before `end`; answered at once if nothing is missing (FIXP 4.7.2).
     fn finished_with(mut self, binding: Binding, queue: Outputs, end: Option<SeqNum>) -> Step
-        requires sess_wf { SessWf self }
-        requires outs_wf { OutsWf queue }
-        requires queue_len_bound { length (queue_of queue).outs + 1 ≤ 32 }
+        requires { Ready 1 self queue }
         ensures { StepIs result (queue_of queue) (finished_with end (view self) binding) }
     {
         self.peer_finished = Some(PeerFinished {
@@ -48,9 +46,7 @@ impl Session {
         now: Instant,
         stamp: Nanotime,
     ) -> Step
-        requires sess_wf { SessWf self }
-        requires outs_wf { OutsWf queue }
-        requires queue_len_bound { length (queue_of queue).outs + 5 ≤ 32 }
+        requires { Ready 5 self queue }
         ensures { StepIs result (queue_of queue) (last_at last now stamp (view self) binding) }
     {
         let Some(number) = last else {
@@ -80,9 +76,7 @@ impl Session {
         now: Instant,
         stamp: Nanotime,
     ) -> Step
-        requires sess_wf { SessWf self }
-        requires outs_wf { OutsWf queue }
-        requires queue_len_bound { length (queue_of queue).outs + 5 ≤ 32 }
+        requires { Ready 5 self queue }
         ensures { StepIs result (queue_of queue) (finished_sending now stamp last (view self) binding) }
     {
         if self.remote_flow.is_sequenced() {
@@ -100,9 +94,7 @@ impl Session {
         now: Instant,
         stamp: Nanotime,
     ) -> Step
-        requires sess_wf { SessWf self }
-        requires outs_wf { OutsWf queue }
-        requires queue_len_bound { length (queue_of queue).outs + 6 ≤ 32 }
+        requires { Ready 6 self queue }
         ensures { StepIs result (queue_of queue) (on_finished_sending now stamp message (view self) binding) }
     {
         if message.session_id != self.id {

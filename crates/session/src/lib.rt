@@ -6,7 +6,7 @@ ghost use Rattle.queue.specs.View.{queue_of, OutsWf};
 ghost use Rattle.rules.specs.Names.bound as bind;
 ghost use Rattle.rules.specs.State.{did, stays, ends};
 ghost use Rattle.rules.specs.Binding.{new_session};
-ghost use Rattle.session.specs.View.{view, SessWf, SessIs, StepIs, with_answer, first_of};
+ghost use Rattle.session.specs.View.{view, SessIs, StepIs, with_answer, first_of, InOrder};
 
 use queue::Outputs;
 use rings::gaps::Gaps;
@@ -105,8 +105,7 @@ impl Session {
 
     /// The binding stands, and this is the answer.
     fn reply(self, binding: Binding, queue: Outputs, answer: Result<Verdict, Refusal>) -> Step
-        requires sess_wf { SessWf self }
-        requires outs_wf { OutsWf queue }
+        requires { InOrder self queue }
         ensures { StepIs result (queue_of queue) (did (view self) binding [] bind.Stay answer) }
     {
         Step {
@@ -120,8 +119,7 @@ impl Session {
 
     /// The binding stands.
     fn stay(self, binding: Binding, queue: Outputs) -> Step
-        requires sess_wf { SessWf self }
-        requires outs_wf { OutsWf queue }
+        requires { InOrder self queue }
         ensures { StepIs result (queue_of queue) (stays (view self) binding []) }
     {
         self.reply(binding, queue, Ok(Verdict::Done))
@@ -129,8 +127,7 @@ impl Session {
 
     /// The binding is over.
     fn unbind(self, binding: Binding, queue: Outputs) -> Step
-        requires sess_wf { SessWf self }
-        requires outs_wf { OutsWf queue }
+        requires { InOrder self queue }
         ensures { StepIs result (queue_of queue) (ends (view self) binding []) }
     {
         Step {

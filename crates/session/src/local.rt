@@ -7,7 +7,7 @@ ghost use Rattle.types.specs.Reasons.{max_reason_len};
 ghost use Rattle.rules.specs.Names.refusal as why;
 ghost use Rattle.rules.specs.Local.{send_refused, send_application, terminate_refused, terminate, retransmit_refused, provider_after, batch, retransmit};
 ghost use Rattle.rules.specs.Local.{reject_refused, reject_retransmit_request, end_refused, end_retransmission};
-ghost use Rattle.session.specs.View.{view, SessWf, StepIs, refused_step, LocalIs, sent_numbered};
+ghost use Rattle.session.specs.View.{view, StepIs, refused_step, LocalIs, sent_numbered, InOrder, Ready};
 
 use crate::{Session, Step};
 use queue::Outputs;
@@ -57,9 +57,7 @@ impl Session {
 
     /// Numbers an application message that this side is about to send (FIXP 3.5.1); none after FinishedReceiving (FIXP 6.3).
     pub fn send_application(self, binding: Binding, queue: Outputs, now: Instant) -> Step
-        requires sess_wf { SessWf self }
-        requires outs_wf { OutsWf queue }
-        requires queue_len_bound { length (queue_of queue).outs + 1 ≤ 32 }
+        requires { Ready 1 self queue }
         ensures { LocalIs result self binding queue (send_refused (view self) binding) (send_application now (view self) binding) }
     {
         let mut kept = binding;
@@ -85,9 +83,7 @@ impl Session {
 
     /// The message has this side's next number.
     fn send_numbered(self, binding: Binding, queue: Outputs, now: Instant) -> Step
-        requires sess_wf { SessWf self }
-        requires outs_wf { OutsWf queue }
-        requires queue_len_bound { length (queue_of queue).outs + 1 ≤ 32 }
+        requires ready { Ready 1 self queue }
         requires outbound_next_bound { self.outbound_next.0 + 1 < all_ones }
         ensures { StepIs result (queue_of queue) (sent_numbered now (view self) binding) }
     {
@@ -110,9 +106,7 @@ impl Session {
         text: Reason,
         now: Instant,
     ) -> Step
-        requires sess_wf { SessWf self }
-        requires outs_wf { OutsWf queue }
-        requires queue_len_bound { length (queue_of queue).outs + 3 ≤ 32 }
+        requires { Ready 3 self queue }
         ensures { LocalIs result self binding queue (terminate_refused text (view self) binding) (terminate now code text (view self) binding) }
     {
         let mut waiting = binding;
@@ -149,9 +143,7 @@ impl Session {
 
     /// Answers the request being served with its next `count` messages (FIXP 4.6.2).
     pub fn retransmit(self, binding: Binding, queue: Outputs, count: u32, now: Instant) -> Step
-        requires sess_wf { SessWf self }
-        requires outs_wf { OutsWf queue }
-        requires queue_len_bound { length (queue_of queue).outs + 1 ≤ 32 }
+        requires { Ready 1 self queue }
         ensures { LocalIs result self binding queue (retransmit_refused count (view self) binding) (retransmit now count (view self) binding) }
     {
         if !binding.is_established() {
@@ -186,9 +178,7 @@ impl Session {
         count: u32,
         provider: Provider,
     ) -> Step
-        requires sess_wf { SessWf self }
-        requires outs_wf { OutsWf queue }
-        requires queue_len_bound { length (queue_of queue).outs + 1 ≤ 32 }
+        requires ready { Ready 1 self queue }
         requires count_bound { provider.sent + count ≤ provider.count }
         requires sent_bound { provider.from.0 + provider.sent ≤ all_ones }
         ensures { StepIs result (queue_of queue) (batch now count provider (view self) binding) }
@@ -220,9 +210,7 @@ impl Session {
         code: RetransmitRejectCode,
         text: Reason,
     ) -> Step
-        requires sess_wf { SessWf self }
-        requires outs_wf { OutsWf queue }
-        requires queue_len_bound { length (queue_of queue).outs + 1 ≤ 32 }
+        requires { Ready 1 self queue }
         ensures { LocalIs result self binding queue (reject_refused text (view self) binding) (reject_retransmit_request code text (view self) binding) }
     {
         let mut leaving = binding;
@@ -250,8 +238,7 @@ impl Session {
 
     /// Stops serving a request before all of it was sent; the requester asks again for the rest (FIXP 4.6.2.2).
     pub fn end_retransmission(mut self, binding: Binding, queue: Outputs) -> Step
-        requires sess_wf { SessWf self }
-        requires outs_wf { OutsWf queue }
+        requires { InOrder self queue }
         ensures { LocalIs result self binding queue (end_refused (view self) binding) (end_retransmission (view self) binding) }
     {
         if !binding.is_established() {

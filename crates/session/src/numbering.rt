@@ -8,7 +8,7 @@ ghost use Rattle.rings.specs.View.{GapsWf, view_kept};
 ghost use Rattle.rules.specs.Ending.{violation};
 ghost use Rattle.rules.specs.Numbering.{allocate_outbound, not_applied_numbered, send_not_applied, gap_held, gap_recorded, gap_reported, gap_on, on_gap, cut_off, past_finished, stop_replay, announced_to, announced, on_next_seq};
 ghost use Rattle.rules.specs.Numbering.{discard, replay_after, count_delivered, complete_if, replayed_counted, on_replayed, number_live, numbered_as, is_peer_finished, on_live, on_application};
-ghost use Rattle.session.specs.View.{view, SessWf, SessIs, StepIs, CountedIs};
+ghost use Rattle.session.specs.View.{view, SessWf, SessIs, StepIs, CountedIs, InOrder, Ready};
 
 use crate::{Session, Step};
 use queue::Outputs;
@@ -36,9 +36,7 @@ pub struct Counted {
 impl Session {
     /// A message that is not delivered, since the peer broke the protocol.
     pub fn discard_violation(self, binding: Binding, queue: Outputs, reason: u8) -> Step
-        requires sess_wf { SessWf self }
-        requires outs_wf { OutsWf queue }
-        requires queue_len_bound { length (queue_of queue).outs + 4 ≤ 32 }
+        requires { Ready 4 self queue }
         ensures { StepIs result (queue_of queue) (answering discard (violation reason (view self) binding)) }
     {
         let step = self.violation(binding, queue, reason);
@@ -53,9 +51,7 @@ impl Session {
         now: Instant,
         stamp: Nanotime,
     ) -> Step
-        requires sess_wf { SessWf self }
-        requires outs_wf { OutsWf queue }
-        requires queue_len_bound { length (queue_of queue).outs + 4 ≤ 32 }
+        requires { Ready 4 self queue }
         ensures { StepIs result (queue_of queue) (on_application now stamp (view self) binding) }
     {
         let mut heard = binding;
@@ -127,9 +123,7 @@ impl Session {
         now: Instant,
         stamp: Nanotime,
     ) -> Step
-        requires sess_wf { SessWf self }
-        requires outs_wf { OutsWf queue }
-        requires queue_len_bound { length (queue_of queue).outs + 3 ≤ 32 }
+        requires { Ready 3 self queue }
         ensures { StepIs result (queue_of queue) (complete_if complete now stamp (view self) binding) }
     {
         if complete {
@@ -148,9 +142,7 @@ impl Session {
         now: Instant,
         stamp: Nanotime,
     ) -> Step
-        requires sess_wf { SessWf self }
-        requires outs_wf { OutsWf queue }
-        requires queue_len_bound { length (queue_of queue).outs + 3 ≤ 32 }
+        requires { Ready 3 self queue }
         ensures { StepIs result (queue_of queue) (replayed_counted now stamp seq (record { session = view self; complete = complete }) binding) }
     {
         let seen = self.gaps.received_in_overflow(seq);
@@ -174,9 +166,7 @@ impl Session {
         now: Instant,
         stamp: Nanotime,
     ) -> Step
-        requires sess_wf { SessWf self }
-        requires outs_wf { OutsWf queue }
-        requires queue_len_bound { length (queue_of queue).outs + 4 ≤ 32 }
+        requires { Ready 4 self queue }
         ensures { StepIs result (queue_of queue) (on_replayed now stamp replay (view self) binding) }
     {
         let seq = replay.next;
@@ -199,9 +189,7 @@ impl Session {
 
     /// A live message, by the peer's flow.
     fn on_live(self, binding: Binding, queue: Outputs) -> Step
-        requires sess_wf { SessWf self }
-        requires outs_wf { OutsWf queue }
-        requires queue_len_bound { length (queue_of queue).outs + 4 ≤ 32 }
+        requires { Ready 4 self queue }
         ensures { StepIs result (queue_of queue) (on_live (view self) binding) }
     {
         if self.is_peer_finished() {
@@ -224,9 +212,7 @@ impl Session {
 
     /// The expected number is this message's, and settles the start as it stands.
     fn number_live(mut self, binding: Binding, queue: Outputs) -> Step
-        requires sess_wf { SessWf self }
-        requires outs_wf { OutsWf queue }
-        requires queue_len_bound { length (queue_of queue).outs + 4 ≤ 32 }
+        requires { Ready 4 self queue }
         ensures { StepIs result (queue_of queue) (number_live (view self) binding) }
     {
         if self.awaiting_resume {
@@ -260,9 +246,7 @@ impl Session {
         now: Instant,
         stamp: Nanotime,
     ) -> Step
-        requires sess_wf { SessWf self }
-        requires outs_wf { OutsWf queue }
-        requires queue_len_bound { length (queue_of queue).outs + 5 ≤ 32 }
+        requires { Ready 5 self queue }
         ensures { StepIs result (queue_of queue) (on_next_seq now stamp next (view self) binding) }
     {
         if !self.remote_flow.is_sequenced() {
@@ -329,9 +313,7 @@ impl Session {
         now: Instant,
         stamp: Nanotime,
     ) -> Step
-        requires sess_wf { SessWf self }
-        requires outs_wf { OutsWf queue }
-        requires queue_len_bound { length (queue_of queue).outs + 5 ≤ 32 }
+        requires { Ready 5 self queue }
         ensures { StepIs result (queue_of queue) (announced now stamp next (view self) binding) }
     {
         if self.start_pending {
@@ -374,9 +356,7 @@ impl Session {
         now: Instant,
         stamp: Nanotime,
     ) -> Step
-        requires sess_wf { SessWf self }
-        requires outs_wf { OutsWf queue }
-        requires queue_len_bound { length (queue_of queue).outs + 5 ≤ 32 }
+        requires ready { Ready 5 self queue }
         requires expected_le_next { expected.0 ≤ next.0 }
         ensures { StepIs result (queue_of queue) (on_gap now stamp expected next (view self) binding) }
     {
@@ -394,8 +374,7 @@ impl Session {
 
     /// A gap that is neither asked for nor reported.
     fn skip_gap(self, binding: Binding, queue: Outputs, next: SeqNum) -> Step
-        requires sess_wf { SessWf self }
-        requires outs_wf { OutsWf queue }
+        requires { InOrder self queue }
         ensures { StepIs result (queue_of queue) (stays (with_inbound (Some next) (view self)) binding []) }
     {
         let moved = self.with_inbound(next);
@@ -412,9 +391,7 @@ impl Session {
         now: Instant,
         stamp: Nanotime,
     ) -> Step
-        requires sess_wf { SessWf self }
-        requires outs_wf { OutsWf queue }
-        requires queue_len_bound { length (queue_of queue).outs + 4 ≤ 32 }
+        requires { Ready 4 self queue }
         ensures { StepIs result (queue_of queue) (gap_on flow.Recoverable now stamp from next (view self) binding) }
     {
         let config = self.config;
@@ -431,10 +408,8 @@ impl Session {
 
     /// Past the bound the gap is held, unless even its runs have no room, and the binding ends.
     fn hold_gap(mut self, binding: Binding, queue: Outputs, next: SeqNum, held: Kept) -> Step
-        requires sess_wf { SessWf self }
+        requires ready { Ready 4 self queue }
         requires gaps_wf { GapsWf held.gaps }
-        requires outs_wf { OutsWf queue }
-        requires queue_len_bound { length (queue_of queue).outs + 4 ≤ 32 }
         ensures { StepIs result (queue_of queue) (gap_held next (view_kept held) (view self) binding) }
     {
         self.gaps = held.gaps;
@@ -454,9 +429,7 @@ impl Session {
         next: SeqNum,
         now: Instant,
     ) -> Step
-        requires sess_wf { SessWf self }
-        requires outs_wf { OutsWf queue }
-        requires queue_len_bound { length (queue_of queue).outs + 4 ≤ 32 }
+        requires ready { Ready 4 self queue }
         requires from_le_next { from.0 ≤ next.0 }
         ensures { StepIs result (queue_of queue) (gap_reported now from next (view self) binding) }
     {
@@ -478,9 +451,7 @@ impl Session {
 
     /// Numbers this side's next application message, behind a Sequence where the receiver could not number it by itself.
     pub fn allocate_outbound(mut self, binding: Binding, queue: Outputs) -> Step
-        requires sess_wf { SessWf self }
-        requires outs_wf { OutsWf queue }
-        requires queue_len_bound { length (queue_of queue).outs + 1 ≤ 32 }
+        requires ready { Ready 1 self queue }
         requires outbound_next_bound { self.outbound_next.0 + 1 < all_ones }
         ensures { StepIs result (queue_of queue) (allocate_outbound (view self) binding) }
     {
@@ -504,9 +475,7 @@ impl Session {
         message: NotApplied,
         now: Instant,
     ) -> Step
-        requires sess_wf { SessWf self }
-        requires outs_wf { OutsWf queue }
-        requires queue_len_bound { length (queue_of queue).outs + 3 ≤ 32 }
+        requires { Ready 3 self queue }
         ensures { StepIs result (queue_of queue) (not_applied_numbered now message (view self) binding) }
     {
         let seq = self.outbound_next;
@@ -533,9 +502,7 @@ impl Session {
         message: NotApplied,
         now: Instant,
     ) -> Step
-        requires sess_wf { SessWf self }
-        requires outs_wf { OutsWf queue }
-        requires queue_len_bound { length (queue_of queue).outs + 3 ≤ 32 }
+        requires { Ready 3 self queue }
         ensures { StepIs result (queue_of queue) (send_not_applied now message (view self) binding) }
     {
         let mut kept = binding;

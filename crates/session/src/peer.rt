@@ -3,7 +3,7 @@ ghost use Rattle.std.specs.Prelude.{◌≡◌, ◌+◌, ◌≤◌, length};
 ghost use Rattle.queue.specs.View.{queue_of, OutsWf};
 ghost use Rattle.rules.specs.Names.verdict;
 ghost use Rattle.rules.specs.Peer.{on_context, on_unsequenced_heartbeat, is_accept, on_applied, on_not_applied, on_message, is_delivery, on_peer};
-ghost use Rattle.session.specs.View.{view, SessWf, StepIs, closing_answer};
+ghost use Rattle.session.specs.View.{view, StepIs, closing_answer, Ready};
 
 use crate::{Session, Step};
 use queue::Outputs;
@@ -73,9 +73,7 @@ impl Session {
         reason: Reason,
         text: Reason,
     ) -> Step
-        requires sess_wf { SessWf self }
-        requires outs_wf { OutsWf queue }
-        requires queue_len_bound { length (queue_of queue).outs + 6 ≤ 32 }
+        requires { Ready 6 self queue }
         ensures { StepIs result (queue_of queue) (on_peer message now stamp reason text (view self) binding) }
     {
         let mut heard = binding;
@@ -98,9 +96,7 @@ impl Session {
         reason: Reason,
         text: Reason,
     ) -> Step
-        requires sess_wf { SessWf self }
-        requires outs_wf { OutsWf queue }
-        requires queue_len_bound { length (queue_of queue).outs + 6 ≤ 32 }
+        requires { Ready 6 self queue }
         ensures { StepIs result (queue_of queue) (on_message message now stamp reason text (view self) binding) }
     {
         match message {
@@ -157,9 +153,7 @@ impl Session {
         now: Instant,
         stamp: Nanotime,
     ) -> Step
-        requires sess_wf { SessWf self }
-        requires outs_wf { OutsWf queue }
-        requires queue_len_bound { length (queue_of queue).outs + 5 ≤ 32 }
+        requires { Ready 5 self queue }
         ensures { StepIs result (queue_of queue) (on_context now stamp message (view self) binding) }
     {
         if message.session_id != self.id {
@@ -173,9 +167,7 @@ impl Session {
     }
 
     fn on_unsequenced_heartbeat(self, binding: Binding, queue: Outputs) -> Step
-        requires sess_wf { SessWf self }
-        requires outs_wf { OutsWf queue }
-        requires queue_len_bound { length (queue_of queue).outs + 4 ≤ 32 }
+        requires { Ready 4 self queue }
         ensures { StepIs result (queue_of queue) (on_unsequenced_heartbeat (view self) binding) }
     {
         if self.remote_flow.is_sequenced() {
@@ -193,9 +185,7 @@ impl Session {
         stamp: Nanotime,
         event: Event,
     ) -> Step
-        requires sess_wf { SessWf self }
-        requires outs_wf { OutsWf queue }
-        requires queue_len_bound { length (queue_of queue).outs + 5 ≤ 32 }
+        requires { Ready 5 self queue }
         ensures { StepIs result (queue_of queue) (on_applied now stamp event (view self) binding) }
     {
         let mut step = self.on_application(binding, queue, now, stamp);
@@ -216,9 +206,7 @@ impl Session {
         stamp: Nanotime,
         event: Event,
     ) -> Step
-        requires sess_wf { SessWf self }
-        requires outs_wf { OutsWf queue }
-        requires queue_len_bound { length (queue_of queue).outs + 5 ≤ 32 }
+        requires { Ready 5 self queue }
         ensures { StepIs result (queue_of queue) (on_not_applied now stamp event (view self) binding) }
     {
         if !self.local_flow.is_idempotent() {

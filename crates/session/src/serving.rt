@@ -2,7 +2,7 @@
 ghost use Rattle.std.specs.Prelude.{◌≡◌, ◌+◌, ◌≤◌, length};
 ghost use Rattle.queue.specs.View.{queue_of, OutsWf};
 ghost use Rattle.rules.specs.Serving.{is_serving, refuse_retransmit, is_sent, serve, on_retransmit_request};
-ghost use Rattle.session.specs.View.{view, SessWf, StepIs};
+ghost use Rattle.session.specs.View.{view, StepIs, Ready};
 
 use crate::{Session, Step};
 use queue::Outputs;
@@ -45,9 +45,7 @@ impl Session {
         queue: Outputs,
         message: RetransmitRequest,
     ) -> Step
-        requires sess_wf { SessWf self }
-        requires outs_wf { OutsWf queue }
-        requires queue_len_bound { length (queue_of queue).outs + 4 ≤ 32 }
+        requires { Ready 4 self queue }
         ensures { StepIs result (queue_of queue) (on_retransmit_request message (view self) binding) }
     {
         if !binding.is_established() {
@@ -107,9 +105,7 @@ impl Session {
 
     /// The request is taken: the host answers it in batches (FIXP 4.6.2).
     fn serve(mut self, binding: Binding, queue: Outputs, message: RetransmitRequest) -> Step
-        requires sess_wf { SessWf self }
-        requires outs_wf { OutsWf queue }
-        requires queue_len_bound { length (queue_of queue).outs + 1 ≤ 32 }
+        requires { Ready 1 self queue }
         ensures { StepIs result (queue_of queue) (serve message (view self) binding) }
     {
         let from = message.from_seq_no;
@@ -135,9 +131,7 @@ impl Session {
         code: RetransmitRejectCode,
         reason: u8,
     ) -> Step
-        requires sess_wf { SessWf self }
-        requires outs_wf { OutsWf queue }
-        requires queue_len_bound { length (queue_of queue).outs + 2 ≤ 32 }
+        requires { Ready 2 self queue }
         ensures { StepIs result (queue_of queue) (refuse_retransmit message code reason (view self) binding) }
     {
         let mut leaving = binding;

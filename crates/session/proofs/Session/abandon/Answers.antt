@@ -6,14 +6,8 @@ use Rattle.rules.specs.Asking.{recovered}
 use Rattle.session.proofs.Laws.{queued-length, said}
 use Rattle.session.proofs.Session.abandon.Goals as goal
 
-pub recovered-requires-clause-sess_wf : goal.recovered-requires-clause-sess_wf
-recovered-requires-clause-sess_wf c = c.consume_missing-left.ensures.wf
-
-pub recovered-requires-clause-outs_wf : goal.recovered-requires-clause-outs_wf
-recovered-requires-clause-outs_wf c = c.event_quoting-told.ensures.wf
-
-pub recovered-requires-clause-queue_len_bound : goal.recovered-requires-clause-queue_len_bound
-recovered-requires-clause-queue_len_bound c = omega (arith, queued-length _ _ _ c.event_quoting-told.ensures.is, c.requires.queue_len_bound)
+pub recovered-requires : goal.recovered-requires
+recovered-requires c = record { session = c.consume_missing-left.ensures.wf; queue = c.event_quoting-told.ensures.wf; room = omega (arith, queued-length _ _ _ c.event_quoting-told.ensures.is, c.requires.room) }
 
 pub returns : goal.returns
 returns c =

@@ -22,7 +22,7 @@ pub event_quoting-told-requires-clause-outs_wf : goal.event_quoting-told-require
 event_quoting-told-requires-clause-outs_wf c = c.send-sent.ensures.wf
 
 pub event_quoting-told-requires-clause-self_len_bound : goal.event_quoting-told-requires-clause-self_len_bound
-event_quoting-told-requires-clause-self_len_bound c = omega (arith, queued-length _ _ _ c.send-sent.ensures.is, c.requires.queue_len_bound)
+event_quoting-told-requires-clause-self_len_bound c = omega (arith, queued-length _ _ _ c.send-sent.ensures.is, c.requires.room)
 
 pub returns : goal.returns
 unfolding saying

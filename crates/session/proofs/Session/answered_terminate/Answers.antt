@@ -17,7 +17,7 @@ pub close_transport-closed-requires-clause-outs_wf : goal.close_transport-closed
 close_transport-closed-requires-clause-outs_wf c = c.event_quoting-told.ensures.wf
 
 pub close_transport-closed-requires-clause-self_len_bound : goal.close_transport-closed-requires-clause-self_len_bound
-close_transport-closed-requires-clause-self_len_bound c = omega (arith, queued-length _ _ _ c.event_quoting-told.ensures.is, c.requires.queue_len_bound)
+close_transport-closed-requires-clause-self_len_bound c = omega (arith, queued-length _ _ _ c.event_quoting-told.ensures.is, c.requires.room)
 
 pub returns : goal.returns
 unfolding saying

@@ -13,7 +13,7 @@ pub event_with-told-requires-clause-outs_wf : goal.event_with-told-requires-clau
 event_with-told-requires-clause-outs_wf c = c.send_with-sent.ensures.wf
 
 pub event_with-told-requires-clause-self_len_bound : goal.event_with-told-requires-clause-self_len_bound
-event_with-told-requires-clause-self_len_bound c = omega (arith, queued-length _ _ _ c.send_with-sent.ensures.is, c.requires.queue_len_bound)
+event_with-told-requires-clause-self_len_bound c = omega (arith, queued-length _ _ _ c.send_with-sent.ensures.is, c.requires.room)
 
 pub close_transport-closed-requires-2-clause-outs_wf : goal.close_transport-closed-requires-2-clause-outs_wf
 close_transport-closed-requires-2-clause-outs_wf c =
@@ -23,7 +23,7 @@ close_transport-closed-requires-2-clause-outs_wf c =
 pub close_transport-closed-requires-2-clause-self_len_bound : goal.close_transport-closed-requires-2-clause-self_len_bound
 close_transport-closed-requires-2-clause-self_len_bound c =
     let e = then-queued _ _ _ _ _ c.send_with-sent.ensures.is c.event_with-told.ensures.is in
-    omega (arith, queued-length _ _ _ e, c.requires.queue_len_bound)
+    omega (arith, queued-length _ _ _ e, c.requires.room)
 
 pub returns : goal.returns
 unfolding fail saying

@@ -25,23 +25,18 @@ returns-then-is_below c = rw (ap (λ (n : Option SeqNum). last_at n c.args.now c
 pub returns-then-not-is_stay : goal.returns-then-not-is_stay
 returns-then-not-is_stay c = rw (ap (λ (n : Option SeqNum). last_at n c.args.now c.args.stamp (view c.args.self) c.args.binding) c.in-Some.is, ne_eqb _ _ c.if-number.false, is_false c.is_below.ensures c.if-is_below.false) (and-then-end _ _ _ _ c.on_next_seq-step.ensures (is_false c.is_stay.ensures c.if-not-is_stay.true))
 
-pub finished_with-requires-clause-sess_wf : goal.finished_with-requires-clause-sess_wf
-finished_with-requires-clause-sess_wf c =
-    let n = next c.in-Some.number in
-    let e : is_stay (on_next_seq c.args.now c.args.stamp n (view c.args.self) c.args.binding).bound ≡ true = ap (λ (x : After). is_stay x.bound) (sym c.on_next_seq-step.ensures.is) ∙ is_true c.is_stay.ensures c.if-not-is_stay.false in
-    c.on_next_seq-step.ensures.session
-
-pub finished_with-requires-clause-outs_wf : goal.finished_with-requires-clause-outs_wf
-finished_with-requires-clause-outs_wf c =
-    let n = next c.in-Some.number in
-    let e : is_stay (on_next_seq c.args.now c.args.stamp n (view c.args.self) c.args.binding).bound ≡ true = ap (λ (x : After). is_stay x.bound) (sym c.on_next_seq-step.ensures.is) ∙ is_true c.is_stay.ensures c.if-not-is_stay.false in
-    c.on_next_seq-step.ensures.queue
-
-pub finished_with-requires-clause-queue_len_bound : goal.finished_with-requires-clause-queue_len_bound
-finished_with-requires-clause-queue_len_bound c =
-    let n = next c.in-Some.number in
-    let e : is_stay (on_next_seq c.args.now c.args.stamp n (view c.args.self) c.args.binding).bound ≡ true = ap (λ (x : After). is_stay x.bound) (sym c.on_next_seq-step.ensures.is) ∙ is_true c.is_stay.ensures c.if-not-is_stay.false in
-    omega (arith, step-length _ _ _ c.on_next_seq-step.ensures, (next-few c.args.now c.args.stamp n (view c.args.self) c.args.binding).few e, c.requires.queue_len_bound)
+pub finished_with-requires : goal.finished_with-requires
+finished_with-requires c = record {
+  session = (let n = next c.in-Some.number in
+      let e : is_stay (on_next_seq c.args.now c.args.stamp n (view c.args.self) c.args.binding).bound ≡ true = ap (λ (x : After). is_stay x.bound) (sym c.on_next_seq-step.ensures.is) ∙ is_true c.is_stay.ensures c.if-not-is_stay.false in
+      c.on_next_seq-step.ensures.session);
+  queue = (let n = next c.in-Some.number in
+      let e : is_stay (on_next_seq c.args.now c.args.stamp n (view c.args.self) c.args.binding).bound ≡ true = ap (λ (x : After). is_stay x.bound) (sym c.on_next_seq-step.ensures.is) ∙ is_true c.is_stay.ensures c.if-not-is_stay.false in
+      c.on_next_seq-step.ensures.queue);
+  room = (let n = next c.in-Some.number in
+      let e : is_stay (on_next_seq c.args.now c.args.stamp n (view c.args.self) c.args.binding).bound ≡ true = ap (λ (x : After). is_stay x.bound) (sym c.on_next_seq-step.ensures.is) ∙ is_true c.is_stay.ensures c.if-not-is_stay.false in
+      omega (arith, step-length _ _ _ c.on_next_seq-step.ensures, (next-few c.args.now c.args.stamp n (view c.args.self) c.args.binding).few e, c.requires.room));
+}
 
 pub returns : goal.returns
 returns c = rw (ap (λ (n : Option SeqNum). last_at n c.args.now c.args.stamp (view c.args.self) c.args.binding) c.in-Some.is, ne_eqb _ _ c.if-number.false, is_false c.is_below.ensures c.if-is_below.false) (and-then-stay _ _ _ _ _ c.on_next_seq-step.ensures (is_true c.is_stay.ensures c.if-not-is_stay.false) c.finished_with.ensures)

@@ -18,7 +18,7 @@ pub send_application-sent-requires-clause-outs_wf : goal.send_application-sent-r
 send_application-sent-requires-clause-outs_wf c = c.allocate_outbound-step.ensures.queue
 
 pub send_application-sent-requires-clause-self_len_bound : goal.send_application-sent-requires-clause-self_len_bound
-send_application-sent-requires-clause-self_len_bound c = omega (arith, step-length _ _ _ c.allocate_outbound-step.ensures, allocate-few (view c.args.self) c.args.binding, c.requires.queue_len_bound)
+send_application-sent-requires-clause-self_len_bound c = omega (arith, step-length _ _ _ c.allocate_outbound-step.ensures, allocate-few (view c.args.self) c.args.binding, c.requires.room)
 
 pub returns : goal.returns
 returns c =

@@ -19,7 +19,7 @@ pub event-told-requires-clause-outs_wf : goal.event-told-requires-clause-outs_wf
 event-told-requires-clause-outs_wf c = c.on_application-step.ensures.queue
 
 pub event-told-requires-clause-self_len_bound : goal.event-told-requires-clause-self_len_bound
-event-told-requires-clause-self_len_bound c = omega (arith, step-length _ _ _ c.on_application-step.ensures, (application-most c.args.now c.args.stamp (view c.args.self) c.args.binding).most, c.requires.queue_len_bound)
+event-told-requires-clause-self_len_bound c = omega (arith, step-length _ _ _ c.on_application-step.ensures, (application-most c.args.now c.args.stamp (view c.args.self) c.args.binding).most, c.requires.room)
 
 pub returns : goal.returns
 unfolding on_applied reporting

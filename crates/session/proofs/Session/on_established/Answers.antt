@@ -24,20 +24,15 @@ pub returns-then-not-is_stay : goal.returns-then-not-is_stay
 unfolding on_established
 returns-then-not-is_stay c = rw (is_true c.is_sequenced.ensures c.if-not-is_sequenced.false, ap (λ (n : Option SeqNum). established_at n c.args.now c.args.stamp (view c.args.self) c.args.binding) c.in-Some.is) (and-then-end _ _ _ _ c.on_next_seq-step.ensures (is_false c.is_stay.ensures c.if-not-is_stay.true))
 
-pub resume-requires-2-clause-sess_wf : goal.resume-requires-2-clause-sess_wf
-resume-requires-2-clause-sess_wf c =
-    let e : is_stay (on_next_seq c.args.now c.args.stamp c.in-Some.number (view c.args.self) c.args.binding).bound ≡ true = ap (λ (x : After). is_stay x.bound) (sym c.on_next_seq-step.ensures.is) ∙ is_true c.is_stay.ensures c.if-not-is_stay.false in
-    c.on_next_seq-step.ensures.session
-
-pub resume-requires-2-clause-outs_wf : goal.resume-requires-2-clause-outs_wf
-resume-requires-2-clause-outs_wf c =
-    let e : is_stay (on_next_seq c.args.now c.args.stamp c.in-Some.number (view c.args.self) c.args.binding).bound ≡ true = ap (λ (x : After). is_stay x.bound) (sym c.on_next_seq-step.ensures.is) ∙ is_true c.is_stay.ensures c.if-not-is_stay.false in
-    c.on_next_seq-step.ensures.queue
-
-pub resume-requires-2-clause-queue_len_bound : goal.resume-requires-2-clause-queue_len_bound
-resume-requires-2-clause-queue_len_bound c =
-    let e : is_stay (on_next_seq c.args.now c.args.stamp c.in-Some.number (view c.args.self) c.args.binding).bound ≡ true = ap (λ (x : After). is_stay x.bound) (sym c.on_next_seq-step.ensures.is) ∙ is_true c.is_stay.ensures c.if-not-is_stay.false in
-    omega (arith, step-length _ _ _ c.on_next_seq-step.ensures, (next-few c.args.now c.args.stamp c.in-Some.number (view c.args.self) c.args.binding).few e, c.requires.queue_len_bound)
+pub resume-requires-2 : goal.resume-requires-2
+resume-requires-2 c = record {
+  session = (let e : is_stay (on_next_seq c.args.now c.args.stamp c.in-Some.number (view c.args.self) c.args.binding).bound ≡ true = ap (λ (x : After). is_stay x.bound) (sym c.on_next_seq-step.ensures.is) ∙ is_true c.is_stay.ensures c.if-not-is_stay.false in
+      c.on_next_seq-step.ensures.session);
+  queue = (let e : is_stay (on_next_seq c.args.now c.args.stamp c.in-Some.number (view c.args.self) c.args.binding).bound ≡ true = ap (λ (x : After). is_stay x.bound) (sym c.on_next_seq-step.ensures.is) ∙ is_true c.is_stay.ensures c.if-not-is_stay.false in
+      c.on_next_seq-step.ensures.queue);
+  room = (let e : is_stay (on_next_seq c.args.now c.args.stamp c.in-Some.number (view c.args.self) c.args.binding).bound ≡ true = ap (λ (x : After). is_stay x.bound) (sym c.on_next_seq-step.ensures.is) ∙ is_true c.is_stay.ensures c.if-not-is_stay.false in
+      omega (arith, step-length _ _ _ c.on_next_seq-step.ensures, (next-few c.args.now c.args.stamp c.in-Some.number (view c.args.self) c.args.binding).few e, c.requires.room));
+}
 
 pub returns : goal.returns
 unfolding on_established

@@ -12,14 +12,8 @@ pub returns-then-is_peer_finished : goal.returns-then-is_peer_finished
 unfolding on_finished_sending
 returns-then-is_peer_finished c = rw (agrees c.ne.ensures c.if-ne.false, is_true c.is_peer_finished.ensures c.if-is_peer_finished.true) c.stay.ensures
 
-pub finished_sending-requires-clause-sess_wf : goal.finished_sending-requires-clause-sess_wf
-finished_sending-requires-clause-sess_wf c = c.requires.sess_wf
-
-pub finished_sending-requires-clause-outs_wf : goal.finished_sending-requires-clause-outs_wf
-finished_sending-requires-clause-outs_wf c = c.event-told.ensures.wf
-
-pub finished_sending-requires-clause-queue_len_bound : goal.finished_sending-requires-clause-queue_len_bound
-finished_sending-requires-clause-queue_len_bound c = omega (arith, queued-length _ _ _ c.event-told.ensures.is, c.requires.queue_len_bound)
+pub finished_sending-requires : goal.finished_sending-requires
+finished_sending-requires c = record { session = c.requires.session; queue = c.event-told.ensures.wf; room = omega (arith, queued-length _ _ _ c.event-told.ensures.is, c.requires.room) }
 
 pub returns : goal.returns
 unfolding on_finished_sending

@@ -7,23 +7,11 @@ use Rattle.session.specs.View.{view}
 use Rattle.session.proofs.Laws.{queued-length, said}
 use Rattle.session.proofs.Session.on_gap.Goals as goal
 
-pub record_gap-requires-clause-sess_wf : goal.record_gap-requires-clause-sess_wf
-record_gap-requires-clause-sess_wf c = c.requires.sess_wf
+pub record_gap-requires : goal.record_gap-requires
+record_gap-requires c = record { session = c.requires.ready.session; queue = c.event-told.ensures.wf; room = omega (arith, queued-length _ _ _ c.event-told.ensures.is, c.requires.ready.room) }
 
-pub record_gap-requires-clause-outs_wf : goal.record_gap-requires-clause-outs_wf
-record_gap-requires-clause-outs_wf c = c.event-told.ensures.wf
-
-pub record_gap-requires-clause-queue_len_bound : goal.record_gap-requires-clause-queue_len_bound
-record_gap-requires-clause-queue_len_bound c = omega (arith, queued-length _ _ _ c.event-told.ensures.is, c.requires.queue_len_bound)
-
-pub report_gap-requires-clause-sess_wf : goal.report_gap-requires-clause-sess_wf
-report_gap-requires-clause-sess_wf c = c.requires.sess_wf
-
-pub report_gap-requires-clause-outs_wf : goal.report_gap-requires-clause-outs_wf
-report_gap-requires-clause-outs_wf c = c.event-told.ensures.wf
-
-pub report_gap-requires-clause-queue_len_bound : goal.report_gap-requires-clause-queue_len_bound
-report_gap-requires-clause-queue_len_bound c = omega (arith, queued-length _ _ _ c.event-told.ensures.is, c.requires.queue_len_bound)
+pub report_gap-requires-clause-ready : goal.report_gap-requires-clause-ready
+report_gap-requires-clause-ready c = record { session = c.requires.ready.session; queue = c.event-told.ensures.wf; room = omega (arith, queued-length _ _ _ c.event-told.ensures.is, c.requires.ready.room) }
 
 pub report_gap-requires-clause-from_le_next : goal.report_gap-requires-clause-from_le_next
 report_gap-requires-clause-from_le_next c = c.requires.expected_le_next

@@ -18,14 +18,8 @@ pub returns-then-ne : goal.returns-then-ne
 unfolding on_retransmit_request
 returns-then-ne c = rw (is_true c.is_established.ensures c.if-not-is_established.false, is_true c.is_recoverable.ensures c.if-not-is_recoverable.false, differs c.ne.ensures c.if-ne.true) c.refuse_retransmit.ensures
 
-pub fail-requires-clause-sess_wf : goal.fail-requires-clause-sess_wf
-fail-requires-clause-sess_wf c = c.requires.sess_wf
-
-pub fail-requires-clause-outs_wf : goal.fail-requires-clause-outs_wf
-fail-requires-clause-outs_wf c = c.event_with-told.ensures.wf
-
-pub fail-requires-clause-queue_len_bound : goal.fail-requires-clause-queue_len_bound
-fail-requires-clause-queue_len_bound c = omega (arith, queued-length _ _ _ c.event_with-told.ensures.is, c.requires.queue_len_bound)
+pub fail-requires : goal.fail-requires
+fail-requires c = record { session = c.requires.session; queue = c.event_with-told.ensures.wf; room = omega (arith, queued-length _ _ _ c.event_with-told.ensures.is, c.requires.room) }
 
 pub returns-then-is_serving : goal.returns-then-is_serving
 unfolding on_retransmit_request

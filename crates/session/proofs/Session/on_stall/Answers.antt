@@ -4,14 +4,8 @@ use Rattle.rules.specs.Deadlines.{on_stall}
 use Rattle.session.proofs.Laws.{queued-length, said}
 use Rattle.session.proofs.Session.on_stall.Goals as goal
 
-pub stall_by-requires-clause-sess_wf : goal.stall_by-requires-clause-sess_wf
-stall_by-requires-clause-sess_wf c = c.requires.sess_wf
-
-pub stall_by-requires-clause-outs_wf : goal.stall_by-requires-clause-outs_wf
-stall_by-requires-clause-outs_wf c = c.event-told.ensures.wf
-
-pub stall_by-requires-clause-queue_len_bound : goal.stall_by-requires-clause-queue_len_bound
-stall_by-requires-clause-queue_len_bound c = omega (arith, queued-length _ _ _ c.event-told.ensures.is, c.requires.queue_len_bound)
+pub stall_by-requires : goal.stall_by-requires
+stall_by-requires c = record { session = c.requires.session; queue = c.event-told.ensures.wf; room = omega (arith, queued-length _ _ _ c.event-told.ensures.is, c.requires.room) }
 
 pub returns : goal.returns
 unfolding on_stall

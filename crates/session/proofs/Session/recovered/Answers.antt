@@ -4,14 +4,8 @@ use Rattle.rules.specs.Asking.{recovered}
 use Rattle.session.proofs.Laws.{is_true, is_false, queued-length, said}
 use Rattle.session.proofs.Session.recovered.Goals as goal
 
-pub maybe_finish_receiving-requires-clause-sess_wf : goal.maybe_finish_receiving-requires-clause-sess_wf
-maybe_finish_receiving-requires-clause-sess_wf c = c.requires.sess_wf
-
-pub maybe_finish_receiving-requires-clause-outs_wf : goal.maybe_finish_receiving-requires-clause-outs_wf
-maybe_finish_receiving-requires-clause-outs_wf c = c.event-told.ensures.wf
-
-pub maybe_finish_receiving-requires-clause-queue_len_bound : goal.maybe_finish_receiving-requires-clause-queue_len_bound
-maybe_finish_receiving-requires-clause-queue_len_bound c = omega (arith, queued-length _ _ _ c.event-told.ensures.is, c.requires.queue_len_bound)
+pub maybe_finish_receiving-requires : goal.maybe_finish_receiving-requires
+maybe_finish_receiving-requires c = record { session = c.requires.session; queue = c.event-told.ensures.wf; room = omega (arith, queued-length _ _ _ c.event-told.ensures.is, c.requires.room) }
 
 pub returns-then-is_empty : goal.returns-then-is_empty
 unfolding recovered

@@ -9,7 +9,7 @@ pub event_with-told-requires-clause-outs_wf : goal.event_with-told-requires-clau
 event_with-told-requires-clause-outs_wf c = c.send_with-sent.ensures.wf
 
 pub event_with-told-requires-clause-self_len_bound : goal.event_with-told-requires-clause-self_len_bound
-event_with-told-requires-clause-self_len_bound c = omega (arith, queued-length _ _ _ c.send_with-sent.ensures.is, c.requires.queue_len_bound)
+event_with-told-requires-clause-self_len_bound c = omega (arith, queued-length _ _ _ c.send_with-sent.ensures.is, c.requires.room)
 
 pub returns : goal.returns
 unfolding refuse_retransmit saying

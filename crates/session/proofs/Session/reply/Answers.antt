@@ -7,4 +7,4 @@ use Rattle.session.specs.View.{view}
 use Rattle.session.proofs.Session.reply.Goals as goal
 
 pub returns : goal.returns
-returns c = record { session = c.requires.sess_wf; queue = c.requires.outs_wf; is = λ i. record { session = view c.args.self; binding = c.args.binding; queue = sym (queued-none (queue_of c.args.queue)) i; bound = bound.Stay; answer = c.args.answer } }
+returns c = record { session = c.requires.session; queue = c.requires.queue; is = λ i. record { session = view c.args.self; binding = c.args.binding; queue = sym (queued-none (queue_of c.args.queue)) i; bound = bound.Stay; answer = c.args.answer } }

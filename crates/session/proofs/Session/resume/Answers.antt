@@ -14,20 +14,15 @@ pub returns-then-not-is_stay : goal.returns-then-not-is_stay
 unfolding resume
 returns-then-not-is_stay c = and-then-end _ _ _ _ c.request_missing-step.ensures (is_false c.is_stay.ensures c.if-not-is_stay.true)
 
-pub maybe_finish_receiving-requires-clause-sess_wf : goal.maybe_finish_receiving-requires-clause-sess_wf
-maybe_finish_receiving-requires-clause-sess_wf c =
-    let e : is_stay (request_missing c.args.now c.args.stamp (view c.args.self) c.args.binding).bound ≡ true = ap (λ (x : After). is_stay x.bound) (sym c.request_missing-step.ensures.is) ∙ is_true c.is_stay.ensures c.if-not-is_stay.false in
-    c.request_missing-step.ensures.session
-
-pub maybe_finish_receiving-requires-clause-outs_wf : goal.maybe_finish_receiving-requires-clause-outs_wf
-maybe_finish_receiving-requires-clause-outs_wf c =
-    let e : is_stay (request_missing c.args.now c.args.stamp (view c.args.self) c.args.binding).bound ≡ true = ap (λ (x : After). is_stay x.bound) (sym c.request_missing-step.ensures.is) ∙ is_true c.is_stay.ensures c.if-not-is_stay.false in
-    c.request_missing-step.ensures.queue
-
-pub maybe_finish_receiving-requires-clause-queue_len_bound : goal.maybe_finish_receiving-requires-clause-queue_len_bound
-maybe_finish_receiving-requires-clause-queue_len_bound c =
-    let e : is_stay (request_missing c.args.now c.args.stamp (view c.args.self) c.args.binding).bound ≡ true = ap (λ (x : After). is_stay x.bound) (sym c.request_missing-step.ensures.is) ∙ is_true c.is_stay.ensures c.if-not-is_stay.false in
-    omega (arith, step-length _ _ _ c.request_missing-step.ensures, (request-few c.args.now c.args.stamp (view c.args.self) c.args.binding).few e, c.requires.queue_len_bound)
+pub maybe_finish_receiving-requires : goal.maybe_finish_receiving-requires
+maybe_finish_receiving-requires c = record {
+  session = (let e : is_stay (request_missing c.args.now c.args.stamp (view c.args.self) c.args.binding).bound ≡ true = ap (λ (x : After). is_stay x.bound) (sym c.request_missing-step.ensures.is) ∙ is_true c.is_stay.ensures c.if-not-is_stay.false in
+      c.request_missing-step.ensures.session);
+  queue = (let e : is_stay (request_missing c.args.now c.args.stamp (view c.args.self) c.args.binding).bound ≡ true = ap (λ (x : After). is_stay x.bound) (sym c.request_missing-step.ensures.is) ∙ is_true c.is_stay.ensures c.if-not-is_stay.false in
+      c.request_missing-step.ensures.queue);
+  room = (let e : is_stay (request_missing c.args.now c.args.stamp (view c.args.self) c.args.binding).bound ≡ true = ap (λ (x : After). is_stay x.bound) (sym c.request_missing-step.ensures.is) ∙ is_true c.is_stay.ensures c.if-not-is_stay.false in
+      omega (arith, step-length _ _ _ c.request_missing-step.ensures, (request-few c.args.now c.args.stamp (view c.args.self) c.args.binding).few e, c.requires.room));
+}
 
 pub returns : goal.returns
 unfolding resume

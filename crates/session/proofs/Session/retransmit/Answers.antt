@@ -33,14 +33,8 @@ returns-then-provider-2 c =
     let k : all_ones < c.in-Some.provider.from.0 + c.in-Some.provider.sent = omega (arith, c.if-provider-2.true) in
     rw (is_true c.is_established.ensures c.if-not-is_established.false, ap (λ (v : Option Provider). batch_refused v c.args.count) c.in-Some.is, le-leb _ _ c.if-provider.false, le-leb _ _ c.if-remaining-count.false, lt-leb _ _ k) c.refuse-then-provider-2.ensures
 
-pub batch-requires-clause-sess_wf : goal.batch-requires-clause-sess_wf
-batch-requires-clause-sess_wf c = c.requires.sess_wf
-
-pub batch-requires-clause-outs_wf : goal.batch-requires-clause-outs_wf
-batch-requires-clause-outs_wf c = c.requires.outs_wf
-
-pub batch-requires-clause-queue_len_bound : goal.batch-requires-clause-queue_len_bound
-batch-requires-clause-queue_len_bound c = c.requires.queue_len_bound
+pub batch-requires-clause-ready : goal.batch-requires-clause-ready
+batch-requires-clause-ready c = record { session = c.requires.session; queue = c.requires.queue; room = c.requires.room }
 
 pub batch-requires-clause-count_bound : goal.batch-requires-clause-count_bound
 batch-requires-clause-count_bound c = omega (arith, c.if-provider.false, c.if-remaining-count.false)

@@ -29,14 +29,8 @@ returns-then-self c =
     let h : all_ones - 1 ≤ c.args.self.outbound_next.0 = omega (arith, c.if-self.true) in
     rw (is_true c.is_established.ensures c.if-not-is_established.false, is_false c.finished_receiving_sent.ensures c.if-finished_receiving_sent.false, is_false c.is_none.ensures c.if-is_none.false, is_true c.is_sequenced.ensures c.if-not-is_sequenced.false, le-leb _ _ h) c.refuse-then-self.ensures
 
-pub send_numbered-requires-clause-sess_wf : goal.send_numbered-requires-clause-sess_wf
-send_numbered-requires-clause-sess_wf c = c.requires.sess_wf
-
-pub send_numbered-requires-clause-outs_wf : goal.send_numbered-requires-clause-outs_wf
-send_numbered-requires-clause-outs_wf c = c.requires.outs_wf
-
-pub send_numbered-requires-clause-queue_len_bound : goal.send_numbered-requires-clause-queue_len_bound
-send_numbered-requires-clause-queue_len_bound c = c.requires.queue_len_bound
+pub send_numbered-requires-clause-ready : goal.send_numbered-requires-clause-ready
+send_numbered-requires-clause-ready c = record { session = c.requires.session; queue = c.requires.queue; room = c.requires.room }
 
 pub send_numbered-requires-clause-outbound_next_bound : goal.send_numbered-requires-clause-outbound_next_bound
 send_numbered-requires-clause-outbound_next_bound c = omega (arith, c.if-self.false)

@@ -21,7 +21,7 @@ pub event_quoting-told-requires-clause-outs_wf : goal.event_quoting-told-require
 event_quoting-told-requires-clause-outs_wf c = c.send_quoting-sent.ensures.wf
 
 pub event_quoting-told-requires-clause-self_len_bound : goal.event_quoting-told-requires-clause-self_len_bound
-event_quoting-told-requires-clause-self_len_bound c = omega (arith, queued-length _ _ _ c.send_quoting-sent.ensures.is, c.requires.queue_len_bound)
+event_quoting-told-requires-clause-self_len_bound c = omega (arith, queued-length _ _ _ c.send_quoting-sent.ensures.is, c.requires.room)
 
 pub close_transport-closed-requires-clause-outs_wf : goal.close_transport-closed-requires-clause-outs_wf
 close_transport-closed-requires-clause-outs_wf c =
@@ -31,7 +31,7 @@ close_transport-closed-requires-clause-outs_wf c =
 pub close_transport-closed-requires-clause-self_len_bound : goal.close_transport-closed-requires-clause-self_len_bound
 close_transport-closed-requires-clause-self_len_bound c =
     let e = then-queued _ _ _ _ _ c.send_quoting-sent.ensures.is c.event_quoting-told.ensures.is in
-    omega (arith, queued-length _ _ _ e, c.requires.queue_len_bound)
+    omega (arith, queued-length _ _ _ e, c.requires.room)
 
 pub returns : goal.returns
 unfolding terminate_refused terminate saying

@@ -4,14 +4,8 @@ use Rattle.rules.specs.Ending.{violation}
 use Rattle.session.proofs.Laws.{queued-length, said}
 use Rattle.session.proofs.Session.violation.Goals as goal
 
-pub fail-requires-clause-sess_wf : goal.fail-requires-clause-sess_wf
-fail-requires-clause-sess_wf c = c.requires.sess_wf
-
-pub fail-requires-clause-outs_wf : goal.fail-requires-clause-outs_wf
-fail-requires-clause-outs_wf c = c.event_with-told.ensures.wf
-
-pub fail-requires-clause-queue_len_bound : goal.fail-requires-clause-queue_len_bound
-fail-requires-clause-queue_len_bound c = omega (arith, queued-length _ _ _ c.event_with-told.ensures.is, c.requires.queue_len_bound)
+pub fail-requires : goal.fail-requires
+fail-requires c = record { session = c.requires.session; queue = c.event_with-told.ensures.wf; room = omega (arith, queued-length _ _ _ c.event_with-told.ensures.is, c.requires.room) }
 
 pub returns : goal.returns
 unfolding violation
