@@ -1,9 +1,10 @@
 -- What the trace program prints, byte for byte (01, "Trace program").
-use Rattle.std.specs.Prelude.{ℕ, zero, suc, ◌+◌, ◌/◌, ◌%◌, ◌≤◌, ◌≡◌, List, [], ◌∷◌, ◌++◌, take, ltb, if◌then◌else◌, Option, Some, None}
+use Rattle.std.specs.Prelude.{ℕ, zero, suc, ◌+◌, ◌/◌, ◌%◌, ◌≤◌, ◌≡◌, List, [], ◌∷◌, ◌++◌, take, length, ltb, if◌then◌else◌, Option, Some, None}
 use Rattle.rules.specs.Names.{SeqNum, SessionStatus, Answer}
 use Rattle.rules.specs.Names.status
 use Rattle.rules.specs.Answers.{Told, ok, accept, replay, discard, sent, batch, refused, told}
 use Rattle.trace.specs.Ascii.{ascii}
+use Rattle.trace.specs.declared.text.Text.{Text}
 
 -- a number in decimal, in at most k digits
 unfoldable pub digits : ℕ → ℕ → List ℕ
@@ -70,14 +71,13 @@ stop_text index = ascii "stop " ++ (decimal index ++ ascii "\n")
 abbrev pub max_line : ℕ
 max_line = 144
 
--- the two halves of a line behind its answer
-abbrev pub standing_text : SessionStatus → Option SeqNum → List ℕ
-standing_text s expected = status_text s ++ (ascii " " ++ (expected_text expected ++ ascii " "))
-
-abbrev pub counts_text : ℕ → ℕ → List ℕ
-counts_text gaps outputs = decimal gaps ++ (ascii " " ++ (decimal outputs ++ ascii "\n"))
-
 -- the first `at` bytes of a buffer stand as before, with t behind them up to r: at most `most` bytes
 pub record Adds (before : List ℕ) (at : ℕ) (t : List ℕ) (most : ℕ) (after : List ℕ) (r : ℕ) : Type 0 where
   pub is : take r after ≡ take at before ++ t
   pub room : r ≤ at + most
+
+-- the same of a buffer that is kept with the number of bytes written: it stays that buffer, and as long
+pub record Writes (before : Text) (t : List ℕ) (most : ℕ) (after : Text) : Type 0 where
+  pub same : after.out.ghost_name ≡ before.out.ghost_name
+  pub long : length after.out.now ≡ length before.out.now
+  pub adds : Adds before.out.now before.len t most after.out.now after.len

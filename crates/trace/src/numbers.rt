@@ -27,7 +27,7 @@ pub fn bytes_at<const N: usize>(s: &[u8], at: usize) -> [u8; N]
 }
 
 /// Two bytes, the lowest first.
-#[tactic(auto, using(crate::proofs::Laws::le_two))]
+#[tactic(auto, unfolding(crate::specs::Format::bytes_at, crate::specs::Format::number_at))]
 pub fn u16_at(s: &[u8], at: usize) -> u16
     requires { at + 2 < 2 ^ 64 }
     ensures { result ≡ u16_at s.now at }
@@ -36,7 +36,7 @@ pub fn u16_at(s: &[u8], at: usize) -> u16
 }
 
 /// Four bytes, the lowest first.
-#[tactic(auto, using(crate::proofs::Laws::le_four))]
+#[tactic(auto, unfolding(crate::specs::Format::bytes_at, crate::specs::Format::number_at))]
 pub fn u32_at(s: &[u8], at: usize) -> u32
     requires { at + 4 < 2 ^ 64 }
     ensures { result ≡ u32_at s.now at }
@@ -45,7 +45,7 @@ pub fn u32_at(s: &[u8], at: usize) -> u32
 }
 
 /// Eight bytes, the lowest first.
-#[tactic(auto, using(crate::proofs::Laws::le_eight))]
+#[tactic(auto, unfolding(crate::specs::Format::bytes_at, crate::specs::Format::number_at))]
 pub fn u64_at(s: &[u8], at: usize) -> u64
     requires { at + 8 < 2 ^ 64 }
     ensures { result ≡ u64_at s.now at }

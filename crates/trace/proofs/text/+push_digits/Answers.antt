@@ -1,15 +1,7 @@
--- `trace::text::push_digits` meets its contract: each turn is a clause of `digits`. Assumes nothing.
+-- `trace::text::push_digits` meets its contract: the last digit stands behind those of the tenth. Assumes nothing.
 use Rattle.std.proofs.Common.{◌+◌, ◌%◌, arith}
-use Rattle.trace.proofs.Lines.{adds_none, adds_then, adds-less, adds-byte, digits-none, digits-one, digits_more}
+use Rattle.trace.proofs.Lines.{adds_then, adds-less, adds-byte, digits_more}
 use Rattle.trace.proofs.text.+push_digits.Goals as goal
-
-pub returns-then-k-eq0 : goal.returns-then-k-eq0
-returns-then-k-eq0 t c = rw (c.if-k-eq0.true, digits-none) (adds_none c.args.out.now c.args.at)
-
-pub returns-then-n-lt10 : goal.returns-then-n-lt10
-returns-then-n-lt10 t c =
-    let a = c.args in
-    rw (digits-one a.k a.n (omega arith) c.if-n-lt10.true) (adds-less a.k (omega arith) (adds-byte a.out.now a.at (48 + a.n) (omega arith)))
 
 pub returns : goal.returns
 returns t c =
