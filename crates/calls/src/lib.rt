@@ -1,16 +1,19 @@
 //! The exported calls: any record and any message, refused by 01's table in its order or done as the rule book says.
 #![tactic(auto)]
 
-ghost use Rattle.std.specs.Prelude.{◌≡◌};
+ghost use Rattle.std.specs.Prelude.{◌≡◌, ◌+◌, ◌≤◌, not, eqb, length, None, Some, OnOk, IfOk};
+ghost use Rattle.types.specs.Reasons.{reason_fits};
 ghost use Rattle.queue.specs.View.{queue_of, OutsWf};
-ghost use Rattle.rules.specs.Calls.{config_fits, has_room, unlinked, opening, opened};
+ghost use Rattle.rules.specs.Names.refusal as why;
+ghost use Rattle.rules.specs.Local.{unless};
+ghost use Rattle.rules.specs.Calls.{config_fits, is_bound, unlinked, opening, opened};
 ghost use Rattle.rules.specs.Calls.{bind_call, release_call, peer_call, application_call, send_call, terminate_call, retransmit_call, reject_call, end_call, timeout_call};
-ghost use Rattle.calls.specs.View.{good_record, Answered, called_of, Unchanged, Done, least_config, opened_as};
+ghost use Rattle.calls.specs.View.{good_record, if_good, of_record, of_bound, with_room, Checked, Found, Ready, Answered, called_of, Unchanged, Done, least_config, opened_as};
 
 use queue::Outputs;
 use session::{Session, Step};
 use types::answers::{Refusal, Verdict};
-use types::binding::Link;
+use types::binding::{Binding, Bound, Link};
 use types::config::{FixpConfig, RetransmitStallPolicy};
 use types::ids::{
     FlowType, Instant, Nanotime, RetransmitRejectCode, SeqNum, SessionId, TerminationCode,
@@ -28,43 +31,113 @@ pub struct Called {
 }
 
 /// 2: `max_gap_len` or `max_retransmit_count` 0, or `max_pending_gaps` 0 or over 64, is out of range.
+#[tactic(auto, unfolding(rules::specs::Calls::config_fits))]
 pub fn config_fits(config: FixpConfig) -> bool
     ensures { result ≡ config_fits config }
 {
-    if config.max_gap_len < 1 {
-        return false;
-    }
-    if config.max_retransmit_count < 1 {
-        return false;
-    }
-    if config.max_pending_gaps < 1 {
-        return false;
-    }
-    config.max_pending_gaps <= 64
+    config.max_gap_len >= 1
+        && config.max_retransmit_count >= 1
+        && config.max_pending_gaps >= 1
+        && config.max_pending_gaps <= 64
 }
 
 /// 1: every count, position and reason length within its room, and the configuration in its range.
+#[tactic(auto, unfolding(crate::specs::View::good_record))]
 pub fn is_good(session: Session, link: Link, queue: Outputs) -> bool
     ensures { result ≡ good_record session link queue }
 {
-    if !config_fits(session.config) {
-        return false;
+    config_fits(session.config) && session.gaps.sound() && link.reason.fits() && queue.sound()
+}
+
+/// 1: a bad record is refused before anything else.
+pub fn good(session: &Session, link: &Link, queue: &Outputs) -> Result<(), Refusal>
+    ensures value { result ≡ if_good (good_record session.now link.now queue.now) tt }
+    ensures is { Checked result (of_record session.now link.now queue.now) }
+    ensures ready { OnOk result (Ready session.now link.now queue.now link.now.binding 0) }
+{
+    if !is_good(*session, *link, *queue) {
+        return Err(Refusal::BadRecord);
     }
-    if !session.gaps.sound() {
-        return false;
-    }
-    if !link.reason.fits() {
-        return false;
-    }
-    queue.sound()
+    Ok(())
 }
 
 /// 7: at least 6 free places.
-fn has_room(queue: Outputs) -> bool
-    requires { OutsWf queue }
-    ensures { result ≡ has_room (queue_of queue) }
+fn room(queue: &Outputs) -> Result<(), Refusal>
+    requires { OutsWf queue.now }
+    ensures is { Checked result (with_room queue.now) }
+    ensures room { OnOk result (length (queue_of queue.now).outs + 6 ≤ 32) }
 {
-    queue.len() + 6 <= 32
+    if queue.len() + 6 > 32 {
+        return Err(Refusal::OutputFull);
+    }
+    Ok(())
+}
+
+/// What a bind asks for: 1, 4, 7.
+fn unbound(session: &Session, link: &Link, queue: &Outputs) -> Result<(), Refusal>
+    ensures is { Checked result (λ rest. of_record session.now link.now queue.now (unless (not (is_bound link.now.binding)) why.AlreadyBound (with_room queue.now rest))) }
+    ensures ready { OnOk result (Ready session.now link.now queue.now None 6) }
+{
+    good(session, link, queue)?;
+    if link.binding.is_some() {
+        return Err(Refusal::AlreadyBound);
+    }
+    room(queue)
+}
+
+/// The binding that a call is made on: 1, 3.
+fn bound(session: &Session, link: &Link, queue: &Outputs) -> Result<Binding, Refusal>
+    ensures is { Found result (of_bound session.now link.now queue.now) }
+    ensures ready { IfOk result (λ b. Ready session.now link.now queue.now (Some b) 0) }
+{
+    good(session, link, queue)?;
+    link.binding.ok_or(Refusal::NotBound)
+}
+
+/// The binding, and room for a call: 1, 3, 7.
+fn bound_with_room(session: &Session, link: &Link, queue: &Outputs) -> Result<Binding, Refusal>
+    ensures is { Found result (λ k. of_bound session.now link.now queue.now (λ b. with_room queue.now (k b))) }
+    ensures ready { IfOk result (λ b. Ready session.now link.now queue.now (Some b) 6) }
+{
+    let binding = bound(session, link, queue)?;
+    room(queue)?;
+    Ok(binding)
+}
+
+/// What a message of the peer asks for: 1, 3, 5, 7.
+fn bound_for_message(
+    session: &Session,
+    link: &Link,
+    queue: &Outputs,
+    text: &Reason,
+) -> Result<Binding, Refusal>
+    ensures is { Found result (λ k. of_bound session.now link.now queue.now (λ b. unless (reason_fits text.now) why.BadMessage (with_room queue.now (k b)))) }
+    ensures ready { IfOk result (λ b. Ready session.now link.now queue.now (Some b) 6) }
+{
+    let binding = bound(session, link, queue)?;
+    if !text.fits() {
+        return Err(Refusal::BadMessage);
+    }
+    room(queue)?;
+    Ok(binding)
+}
+
+/// What a batch of `count` messages asks for: 1, 3, 6, 7.
+fn bound_for_batch(
+    session: &Session,
+    link: &Link,
+    queue: &Outputs,
+    count: u32,
+) -> Result<Binding, Refusal>
+    ensures is { Found result (λ k. of_bound session.now link.now queue.now (λ b. unless (not (eqb count 0)) why.ZeroCount (with_room queue.now (k b)))) }
+    ensures ready { IfOk result (λ b. Ready session.now link.now queue.now (Some b) 6) }
+{
+    let binding = bound(session, link, queue)?;
+    if count == 0 {
+        return Err(Refusal::ZeroCount);
+    }
+    room(queue)?;
+    Ok(binding)
 }
 
 /// A refused call changes nothing.
@@ -83,38 +156,28 @@ fn refused(session: Session, link: Link, queue: Outputs, refusal: Refusal) -> Ca
 fn unlink() -> Link
     ensures { result ≡ unlinked }
 {
-    let reason = Reason::none();
     Link {
         binding: None,
-        reason,
+        reason: Reason::none(),
     }
 }
 
-/// A step's parts: Unbind drops the binding, else `reason` stands beside it.
+/// A step's parts: Unbind drops the binding, else `reason` stands beside it. A refused step has left all as it was.
 fn answered(step: Step, reason: Reason) -> Called
     ensures { result ≡ called_of step reason }
 {
-    let session = step.session;
-    let queue = step.queue;
-    let answer = step.answer;
-    if !step.bound.is_stay() {
-        let link = unlink();
-        return Called {
-            session,
-            link,
-            queue,
-            answer,
-        };
-    }
-    let link = Link {
-        binding: Some(step.binding),
-        reason,
+    let link = match step.bound {
+        Bound::Stay => Link {
+            binding: Some(step.binding),
+            reason,
+        },
+        Bound::Unbind => unlink(),
     };
     Called {
-        session,
+        session: step.session,
         link,
-        queue,
-        answer,
+        queue: step.queue,
+        answer: step.answer,
     }
 }
 
@@ -131,34 +194,27 @@ pub fn bind(
 ) -> Called
     ensures { Answered (bind_call now stamp local_keepalive remote_keepalive next) result session link queue }
 {
-    if !is_good(session, link, queue) {
-        return refused(session, link, queue, Refusal::BadRecord);
+    match unbound(&session, &link, &queue) {
+        Err(refusal) => refused(session, link, queue, refusal),
+        Ok(()) => answered(
+            session.bind(queue, now, stamp, local_keepalive, remote_keepalive, next),
+            Reason::none(),
+        ),
     }
-    let None = link.binding else {
-        return refused(session, link, queue, Refusal::AlreadyBound);
-    };
-    if !has_room(queue) {
-        return refused(session, link, queue, Refusal::OutputFull);
-    }
-    let step = session.bind(queue, now, stamp, local_keepalive, remote_keepalive, next);
-    let none = Reason::none();
-    answered(step, none)
 }
 
 /// Releases the transport, bound or not: 1.
 pub fn release(session: Session, link: Link, queue: Outputs) -> Called
     ensures { Answered release_call result session link queue }
 {
-    if !is_good(session, link, queue) {
-        return refused(session, link, queue, Refusal::BadRecord);
-    }
-    let released = session.release_binding_state();
-    let none = unlink();
-    Called {
-        session: released,
-        link: none,
-        queue,
-        answer: Ok(Verdict::Done),
+    match good(&session, &link, &queue) {
+        Err(refusal) => refused(session, link, queue, refusal),
+        Ok(()) => Called {
+            session: session.release_binding_state(),
+            link: unlink(),
+            queue,
+            answer: Ok(Verdict::Done),
+        },
     }
 }
 
@@ -174,21 +230,13 @@ pub fn on_peer(
 ) -> Called
     ensures { Answered (peer_call now stamp message text) result session link queue }
 {
-    if !is_good(session, link, queue) {
-        return refused(session, link, queue, Refusal::BadRecord);
+    match bound_for_message(&session, &link, &queue, &text) {
+        Err(refusal) => refused(session, link, queue, refusal),
+        Ok(binding) => answered(
+            session.on_peer(binding, queue, message, now, stamp, link.reason, text),
+            link.reason,
+        ),
     }
-    let Some(binding) = link.binding else {
-        return refused(session, link, queue, Refusal::NotBound);
-    };
-    if !text.fits() {
-        return refused(session, link, queue, Refusal::BadMessage);
-    }
-    if !has_room(queue) {
-        return refused(session, link, queue, Refusal::OutputFull);
-    }
-    let reason = link.reason;
-    let step = session.on_peer(binding, queue, message, now, stamp, reason, text);
-    answered(step, reason)
 }
 
 /// An application message of the peer: 1, 3, 7.
@@ -201,17 +249,13 @@ pub fn on_application(
 ) -> Called
     ensures { Answered (application_call now stamp) result session link queue }
 {
-    if !is_good(session, link, queue) {
-        return refused(session, link, queue, Refusal::BadRecord);
+    match bound_with_room(&session, &link, &queue) {
+        Err(refusal) => refused(session, link, queue, refusal),
+        Ok(binding) => answered(
+            session.on_application(binding, queue, now, stamp),
+            link.reason,
+        ),
     }
-    let Some(binding) = link.binding else {
-        return refused(session, link, queue, Refusal::NotBound);
-    };
-    if !has_room(queue) {
-        return refused(session, link, queue, Refusal::OutputFull);
-    }
-    let step = session.on_application(binding, queue, now, stamp);
-    answered(step, link.reason)
 }
 
 /// Runs the timers that are due: 1, 3, 7.
@@ -224,44 +268,23 @@ pub fn on_timeout(
 ) -> Called
     ensures { Answered (timeout_call now stamp) result session link queue }
 {
-    if !is_good(session, link, queue) {
-        return refused(session, link, queue, Refusal::BadRecord);
+    match bound_with_room(&session, &link, &queue) {
+        Err(refusal) => refused(session, link, queue, refusal),
+        Ok(binding) => answered(
+            session.on_timeout(binding, queue, now, stamp, link.reason),
+            link.reason,
+        ),
     }
-    let Some(binding) = link.binding else {
-        return refused(session, link, queue, Refusal::NotBound);
-    };
-    if !has_room(queue) {
-        return refused(session, link, queue, Refusal::OutputFull);
-    }
-    let reason = link.reason;
-    let step = session.on_timeout(binding, queue, now, stamp, reason);
-    answered(step, reason)
 }
 
 /// Numbers an application message about to be sent: 1, 3, 7, then 8, 9, 10 or 11.
 pub fn send_application(session: Session, link: Link, queue: Outputs, now: Instant) -> Called
     ensures { Answered (send_call now) result session link queue }
 {
-    if !is_good(session, link, queue) {
-        return refused(session, link, queue, Refusal::BadRecord);
+    match bound_with_room(&session, &link, &queue) {
+        Err(refusal) => refused(session, link, queue, refusal),
+        Ok(binding) => answered(session.send_application(binding, queue, now), link.reason),
     }
-    let Some(binding) = link.binding else {
-        return refused(session, link, queue, Refusal::NotBound);
-    };
-    if !has_room(queue) {
-        return refused(session, link, queue, Refusal::OutputFull);
-    }
-    let step = session.send_application(binding, queue, now);
-    let answer = step.answer;
-    if answer.is_err() {
-        return Called {
-            session,
-            link,
-            queue,
-            answer,
-        };
-    }
-    answered(step, link.reason)
 }
 
 /// Starts to unbind; the reason stands beside the binding until the answer: 1, 3, 7, then 8, 14.
@@ -275,55 +298,27 @@ pub fn terminate(
 ) -> Called
     ensures { Answered (terminate_call now code text) result session link queue }
 {
-    if !is_good(session, link, queue) {
-        return refused(session, link, queue, Refusal::BadRecord);
+    match bound_with_room(&session, &link, &queue) {
+        Err(refusal) => refused(session, link, queue, refusal),
+        Ok(binding) => {
+            let step = session.terminate(binding, queue, code, text, now);
+            match step.answer {
+                Ok(_) => answered(step, text),
+                // The reason that stood stays.
+                Err(_) => answered(step, link.reason),
+            }
+        }
     }
-    let Some(binding) = link.binding else {
-        return refused(session, link, queue, Refusal::NotBound);
-    };
-    if !has_room(queue) {
-        return refused(session, link, queue, Refusal::OutputFull);
-    }
-    let step = session.terminate(binding, queue, code, text, now);
-    let answer = step.answer;
-    if answer.is_err() {
-        return Called {
-            session,
-            link,
-            queue,
-            answer,
-        };
-    }
-    answered(step, text)
 }
 
 /// The next batch of the request being served: 1, 3, 6, 7, then 8, 12, 13, 11.
 pub fn retransmit(session: Session, link: Link, queue: Outputs, now: Instant, count: u32) -> Called
     ensures { Answered (retransmit_call now count) result session link queue }
 {
-    if !is_good(session, link, queue) {
-        return refused(session, link, queue, Refusal::BadRecord);
+    match bound_for_batch(&session, &link, &queue, count) {
+        Err(refusal) => refused(session, link, queue, refusal),
+        Ok(binding) => answered(session.retransmit(binding, queue, count, now), link.reason),
     }
-    let Some(binding) = link.binding else {
-        return refused(session, link, queue, Refusal::NotBound);
-    };
-    if count == 0 {
-        return refused(session, link, queue, Refusal::ZeroCount);
-    }
-    if !has_room(queue) {
-        return refused(session, link, queue, Refusal::OutputFull);
-    }
-    let step = session.retransmit(binding, queue, count, now);
-    let answer = step.answer;
-    if answer.is_err() {
-        return Called {
-            session,
-            link,
-            queue,
-            answer,
-        };
-    }
-    answered(step, link.reason)
 }
 
 /// Refuses the request being served: 1, 3, 7, then 8, 14, 12.
@@ -336,49 +331,23 @@ pub fn reject_retransmit_request(
 ) -> Called
     ensures { Answered (reject_call code text) result session link queue }
 {
-    if !is_good(session, link, queue) {
-        return refused(session, link, queue, Refusal::BadRecord);
+    match bound_with_room(&session, &link, &queue) {
+        Err(refusal) => refused(session, link, queue, refusal),
+        Ok(binding) => answered(
+            session.reject_retransmit_request(binding, queue, code, text),
+            link.reason,
+        ),
     }
-    let Some(binding) = link.binding else {
-        return refused(session, link, queue, Refusal::NotBound);
-    };
-    if !has_room(queue) {
-        return refused(session, link, queue, Refusal::OutputFull);
-    }
-    let step = session.reject_retransmit_request(binding, queue, code, text);
-    let answer = step.answer;
-    if answer.is_err() {
-        return Called {
-            session,
-            link,
-            queue,
-            answer,
-        };
-    }
-    answered(step, link.reason)
 }
 
 /// Stops serving before all was sent: 1, 3, then 8, 12.
 pub fn end_retransmission(session: Session, link: Link, queue: Outputs) -> Called
     ensures { Answered end_call result session link queue }
 {
-    if !is_good(session, link, queue) {
-        return refused(session, link, queue, Refusal::BadRecord);
+    match bound(&session, &link, &queue) {
+        Err(refusal) => refused(session, link, queue, refusal),
+        Ok(binding) => answered(session.end_retransmission(binding, queue), link.reason),
     }
-    let Some(binding) = link.binding else {
-        return refused(session, link, queue, Refusal::NotBound);
-    };
-    let step = session.end_retransmission(binding, queue);
-    let answer = step.answer;
-    if answer.is_err() {
-        return Called {
-            session,
-            link,
-            queue,
-            answer,
-        };
-    }
-    answered(step, link.reason)
 }
 
 /// The session that stands in for one that was not opened.
@@ -410,9 +379,8 @@ pub fn open(
         let session = Session::new(id, local_flow, remote_flow, least());
         return refused(session, link, queue, Refusal::BadConfig);
     }
-    let session = Session::new(id, local_flow, remote_flow, config);
     Called {
-        session,
+        session: Session::new(id, local_flow, remote_flow, config),
         link,
         queue,
         answer: Ok(Verdict::Done),

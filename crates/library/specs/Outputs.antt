@@ -1,6 +1,6 @@
 -- The output that a plain one stands for, and the plain form of each: the kind of the trace record for what is sent, 1 CloseTransport, events 101 to 113.
 use Rattle.std.specs.Prelude.{ℕ, Bool, true, false, ◌&&◌, List, [], ◌∷◌, map, eqb, if◌then◌else◌}
-use Rattle.types.specs.Flows.{termination_number, rejection_number}
+use Rattle.types.specs.Flows.{termination_number, rejection_number, by_number, name_number}
 use Rattle.types.specs.Reasons.{no_text}
 use Rattle.rules.specs.Names.{SessionMessage, Event, Said, Output, SeqNum, Nanotime}
 use Rattle.rules.specs.Names.message
@@ -11,7 +11,7 @@ use Rattle.library.specs.declared.mirror.Id.{Id}
 use Rattle.library.specs.declared.mirror.Number.{Number}
 use Rattle.library.specs.declared.mirror.Out.{Out}
 use Rattle.library.specs.declared.mirror.Queue.{Queue}
-use Rattle.library.specs.Numbers.{is_listed, termination_in, rejection_in, by_in, by_number, name_in, name_number, is_name_number}
+use Rattle.library.specs.Numbers.{is_listed, termination_in, rejection_in, by_in, name_in, is_name_number}
 use Rattle.library.specs.Parts.{no_number, seq_in, seq_out, id_in, id_out, text_in, text_out}
 
 -- ---- to plain numbers

@@ -1,6 +1,7 @@
 -- The session, the binding and the call that plain records stand for.
 use Rattle.std.specs.Prelude.{Bool, true, false, map}
 use Rattle.rules.specs.Names.{Instant, Nanotime, Link}
+use Rattle.rules.specs.Gaps.{max_gaps, max_runs}
 use Rattle.rules.specs.Calls.{Call}
 use Rattle.rings.specs.declared.ring.Ring.{Ring}
 use Rattle.rings.specs.declared.gaps.Gaps.{Gaps}

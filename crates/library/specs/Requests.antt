@@ -1,5 +1,5 @@
 -- The call that a request's numbers stand for (01, "Trace program"): the kinds of the trace's records.
-use Rattle.std.specs.Prelude.{ℕ, Bool, true, false, leb, eqb, if◌then◌else◌}
+use Rattle.std.specs.Prelude.{ℕ, leb, eqb, if◌then◌else◌}
 use Rattle.rules.specs.Names.{SeqNum, Nanotime, PeerMessage}
 use Rattle.rules.specs.Names.peer
 use Rattle.trace.specs.declared.records.Entry.{Entry}

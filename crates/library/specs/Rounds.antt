@@ -1,7 +1,9 @@
 -- What is read back from the plain form of a part is that part: nothing is lost at the border.
-use Rattle.std.specs.Prelude.{◌≡◌, refl, List, [], ◌∷◌, map, Option, Some, None}
+use Rattle.std.specs.Prelude.{ℕ, ◌≡◌, refl, List, [], ◌∷◌, map, Option, Some, None}
 use Rattle.std.proofs.Common.{ap}
-use Rattle.types.specs.Flows.{flow_number, policy_number, termination_number, rejection_number}
+use Rattle.types.specs.Flows.{flow_number, policy_number, termination_number, rejection_number, by_number, name_number}
+use Rattle.types.specs.Codes.{flow_of, policy_of, termination_of, rejection_of, by_of, name_of_number}
+use Rattle.rules.specs.Gaps.{max_gaps, max_runs}
 use Rattle.rules.specs.Names.{FlowType, TerminationCode, RetransmitRejectCode, RetransmitStallPolicy, TerminatedBy, MessageName, SessionId, SeqNum, Instant, FixpConfig, Reason, Gap, Outstanding, Replay, Provider, PeerFinished, BindState, Binding}
 use Rattle.rules.specs.Names.flow
 use Rattle.rules.specs.Names.code
@@ -11,45 +13,45 @@ use Rattle.rules.specs.Names.by
 use Rattle.rules.specs.Names.name
 use Rattle.rules.specs.Names.state
 use Rattle.rings.specs.declared.ring.Ring.{Ring}
-use Rattle.library.specs.Numbers.{flow_in, policy_in, termination_in, rejection_in, by_in, by_number, name_in, name_number}
+use Rattle.library.specs.Numbers.{flow_in, policy_in, termination_in, rejection_in, by_in, name_in}
 use Rattle.library.specs.Parts.{seq_in, seq_out, instant_in, instant_out, duration_in, duration_out, id_in, id_out, text_in, text_out, gap_in, gap_out, config_in, config_out, outstanding_in, outstanding_out, replay_in, replay_out, provider_in, provider_out, finished_in, finished_out, state_in, bound_out}
 use Rattle.library.specs.Records.{missing_in, missing_out, overflow_in, overflow_out}
 
 -- ---- codes
 pub flow-back : (f : FlowType) → flow_in (flow_number f) ≡ f
-unfolding flow_in
+unfolding flow_of
 flow-back flow.Recoverable = refl
 flow-back flow.Idempotent = refl
 flow-back flow.Unsequenced = refl
 flow-back flow.None = refl
 
 pub policy-back : (p : RetransmitStallPolicy) → policy_in (policy_number p) ≡ p
-unfolding policy_in
+unfolding policy_of
 policy-back policy.Terminate = refl
 policy-back policy.ReRequestAfterContextSwitch = refl
 policy-back policy.ReRequestAfterBatch = refl
 policy-back policy.EventOnly = refl
 
 pub termination-back : (k : TerminationCode) → termination_in (termination_number k) ≡ k
-unfolding termination_in
+unfolding termination_of
 termination-back code.Finished = refl
 termination-back code.UnspecifiedError = refl
 termination-back code.ReRequestOutOfBounds = refl
 termination-back code.ReRequestInProgress = refl
 
 pub rejection-back : (k : RetransmitRejectCode) → rejection_in (rejection_number k) ≡ k
-unfolding rejection_in
+unfolding rejection_of
 rejection-back rejection.OutOfRange = refl
 rejection-back rejection.InvalidSession = refl
 rejection-back rejection.RequestLimitExceeded = refl
 
 pub by-back : (b : TerminatedBy) → by_in (by_number b) ≡ b
-unfolding by_in
+unfolding by_of
 by-back by.Local = refl
 by-back by.Peer = refl
 
 pub name_back : (m : MessageName) → name_in (name_number m) ≡ m
-unfolding name_in
+unfolding name_of_number
 name_back name.ApplicationMessage = refl
 name_back name.Sequence = refl
 name_back name.Context = refl

@@ -1,114 +1,80 @@
 //! The two rings, place by place.
 ghost use Rattle.std.specs.Prelude.{◌≡◌};
 ghost use Rattle.library.specs.Parts.{gap_in, gap_out};
-ghost use Rattle.library.specs.Records.{missing_in, missing_out, overflow_in, overflow_out, gaps_in};
+ghost use Rattle.library.specs.Records.{missing_in, missing_out, overflow_in, overflow_out};
 
 use crate::mirror::{Missing, Overflow, Range};
 use rings::gaps::{MAX_GAPS, MAX_RUNS};
 use rings::ring::Ring;
-use rings::gaps::Gaps;
 use types::ids::SeqNum;
 use types::parts::Gap;
 
-fn gap_in(range: Range) -> Gap
-    ensures { result ≡ gap_in range }
-{
-    Gap {
-        from: SeqNum(range.from),
-        end: SeqNum(range.end),
+impl From<Range> for Gap {
+    ghost from_gives = { λ r g. g ≡ gap_in r };
+
+    fn from(range: Range) -> Gap {
+        Gap {
+            from: SeqNum(range.from),
+            end: SeqNum(range.end),
+        }
     }
 }
 
-fn gap_out(gap: Gap) -> Range
-    ensures { result ≡ gap_out gap }
-{
-    Range {
-        from: gap.from.0,
-        end: gap.end.0,
+impl From<Gap> for Range {
+    ghost from_gives = { λ g r. r ≡ gap_out g };
+
+    fn from(gap: Gap) -> Range {
+        Range {
+            from: gap.from.0,
+            end: gap.end.0,
+        }
     }
 }
 
-fn missing_in(m: Missing) -> Ring<MAX_GAPS>
-    ensures { result ≡ missing_in m }
-{
-    let mut ring = Ring::new();
-    let mut i: usize = 0;
-    while i < MAX_GAPS {
-        let r = m.slots[i];
-        let g = gap_in(r);
-        ring.slots[i] = g;
-        i = i + 1;
+impl From<Missing> for Ring<MAX_GAPS> {
+    ghost from_gives = { λ m r. r ≡ missing_in m };
+
+    fn from(m: Missing) -> Ring<MAX_GAPS> {
+        Ring {
+            slots: m.slots.map(Gap::from),
+            head: m.head,
+            count: m.count,
+        }
     }
-    ring.head = m.head;
-    ring.count = m.count;
-    ring
 }
 
-pub fn missing_out(ring: Ring<MAX_GAPS>) -> Missing
-    ensures { result ≡ missing_out ring }
-{
-    let none = Range { from: 0, end: 0 };
-    let mut m = Missing {
-        slots: [none; MAX_GAPS],
-        head: 0,
-        count: 0,
-    };
-    let mut i: usize = 0;
-    while i < MAX_GAPS {
-        let g = ring.slots[i];
-        let r = gap_out(g);
-        m.slots[i] = r;
-        i = i + 1;
+impl From<Ring<MAX_GAPS>> for Missing {
+    ghost from_gives = { λ r m. m ≡ missing_out r };
+
+    fn from(ring: Ring<MAX_GAPS>) -> Missing {
+        Missing {
+            slots: ring.slots.map(Range::from),
+            head: ring.head,
+            count: ring.count,
+        }
     }
-    m.head = ring.head;
-    m.count = ring.count;
-    m
 }
 
-fn overflow_in(m: Overflow) -> Ring<MAX_RUNS>
-    ensures { result ≡ overflow_in m }
-{
-    let mut ring = Ring::new();
-    let mut i: usize = 0;
-    while i < MAX_RUNS {
-        let r = m.slots[i];
-        let g = gap_in(r);
-        ring.slots[i] = g;
-        i = i + 1;
+impl From<Overflow> for Ring<MAX_RUNS> {
+    ghost from_gives = { λ m r. r ≡ overflow_in m };
+
+    fn from(m: Overflow) -> Ring<MAX_RUNS> {
+        Ring {
+            slots: m.slots.map(Gap::from),
+            head: m.head,
+            count: m.count,
+        }
     }
-    ring.head = m.head;
-    ring.count = m.count;
-    ring
 }
 
-pub fn overflow_out(ring: Ring<MAX_RUNS>) -> Overflow
-    ensures { result ≡ overflow_out ring }
-{
-    let none = Range { from: 0, end: 0 };
-    let mut m = Overflow {
-        slots: [none; MAX_RUNS],
-        head: 0,
-        count: 0,
-    };
-    let mut i: usize = 0;
-    while i < MAX_RUNS {
-        let g = ring.slots[i];
-        let r = gap_out(g);
-        m.slots[i] = r;
-        i = i + 1;
-    }
-    m.head = ring.head;
-    m.count = ring.count;
-    m
-}
+impl From<Ring<MAX_RUNS>> for Overflow {
+    ghost from_gives = { λ r m. m ≡ overflow_out r };
 
-pub fn gaps_in(missing: Missing, overflow: Overflow) -> Gaps
-    ensures { result ≡ gaps_in missing overflow }
-{
-    let missing_ring = missing_in(missing);
-    let overflow_ring = overflow_in(overflow);
-    Gaps {
-        missing: missing_ring,
-        overflow_received: overflow_ring,
+    fn from(ring: Ring<MAX_RUNS>) -> Overflow {
+        Overflow {
+            slots: ring.slots.map(Range::from),
+            head: ring.head,
+            count: ring.count,
+        }
     }
 }

@@ -5,7 +5,7 @@ use types::reasons::MAX_REASON_LEN;
 
 /// A number that may be absent.
 #[repr(C)]
-#[derive(Clone, Copy)]
+#[derive(Clone, Copy, Default)]
 pub struct Number {
     pub some: bool,
     pub it: u64,
@@ -67,7 +67,7 @@ pub struct Settings {
 
 /// Our request in flight, if `some`.
 #[repr(C)]
-#[derive(Clone, Copy)]
+#[derive(Clone, Copy, Default)]
 pub struct Asked {
     pub some: bool,
     pub interrupted: bool,
@@ -82,7 +82,7 @@ pub struct Asked {
 
 /// The batch being received, if `some`.
 #[repr(C)]
-#[derive(Clone, Copy)]
+#[derive(Clone, Copy, Default)]
 pub struct Batch {
     pub some: bool,
     pub remaining: u32,
@@ -91,7 +91,7 @@ pub struct Batch {
 
 /// The peer's request being served, if `some`.
 #[repr(C)]
-#[derive(Clone, Copy)]
+#[derive(Clone, Copy, Default)]
 pub struct Served {
     pub some: bool,
     pub count: u32,
@@ -102,7 +102,7 @@ pub struct Served {
 
 /// The peer's FinishedSending, if `some`.
 #[repr(C)]
-#[derive(Clone, Copy)]
+#[derive(Clone, Copy, Default)]
 pub struct Finished {
     pub some: bool,
     pub receiving_sent: bool,

@@ -2,53 +2,53 @@
 ghost use Rattle.std.specs.Prelude.{◌≡◌};
 ghost use Rattle.library.specs.Outputs.{bare_out, coded_out, counted_out, message_out, event_out, said_out, output_out, queue_out, said_in, is_said, all_said, output_in, queue_in};
 
-use crate::codes::{by_in, by_out, is_name, listed, name_in, name_out, rejection_in, rejection_out, termination_in, termination_out};
-use crate::mirror::{Id, Out, Queue};
-use crate::parts::{id_in, id_out, no_number, seq_in, seq_out, text_in, text_out};
-use queue::{MAX_OUTPUTS, Outputs};
+use crate::codes::{by_in, is_name, listed, name_in, rejection_in, termination_in};
+use crate::mirror::{Id, Number, Out, Queue};
+use queue::Outputs;
 use types::ids::{Nanotime, SeqNum};
-use types::messages::{FinishedReceiving, MessageName, NotApplied, Retransmission, RetransmitReject, RetransmitRequest, Sequence, SessionMessage, Terminate};
+use types::messages::{
+    FinishedReceiving, NotApplied, Retransmission, RetransmitReject, RetransmitRequest, Sequence,
+    SessionMessage, Terminate,
+};
 use types::output::{Event, Output, Said};
 use types::reasons::Reason;
 
 /// What is sent, by the kinds 32 to 42, or reported, by the kinds from 101; else CloseTransport.
+#[tactic(auto, unfolding(crate::specs::Outputs::said_in))]
 fn said_in(o: Out) -> Said
     ensures { result ≡ said_in o }
 {
-    let id = o.id;
-    let seq = o.seq;
-    let kind = o.kind;
-    match kind {
+    match o.kind {
         32 => Said::Send(SessionMessage::Sequence(Sequence {
             next_seq_no: SeqNum(o.number),
         })),
         34 => Said::Send(SessionMessage::UnsequencedHeartbeat),
         35 => Said::Send(SessionMessage::RetransmitRequest(RetransmitRequest {
-            session_id: id_in(id),
+            session_id: o.id.into(),
             timestamp: Nanotime(o.stamp),
             from_seq_no: SeqNum(o.number),
             count: o.count,
         })),
         36 => Said::Send(SessionMessage::Retransmission(Retransmission {
-            session_id: id_in(id),
+            session_id: o.id.into(),
             request_timestamp: Nanotime(o.stamp),
             next_seq_no: SeqNum(o.number),
             count: o.count,
         })),
         37 => Said::Send(SessionMessage::RetransmitReject(RetransmitReject {
-            session_id: id_in(id),
+            session_id: o.id.into(),
             request_timestamp: Nanotime(o.stamp),
             code: rejection_in(o.code),
         })),
         38 => Said::Send(SessionMessage::Terminate(Terminate {
-            session_id: id_in(id),
+            session_id: o.id.into(),
             code: termination_in(o.code),
         })),
         40 => Said::Send(SessionMessage::FinishedReceiving(FinishedReceiving {
-            session_id: id_in(id),
+            session_id: o.id.into(),
         })),
         42 => Said::SendApplication {
-            seq: seq_in(seq),
+            seq: o.seq.into(),
             message: NotApplied {
                 from_seq_no: SeqNum(o.number),
                 count: o.count,
@@ -88,7 +88,7 @@ fn said_in(o: Out) -> Said
         110 => Said::Event(Event::KeepaliveLapsed),
         111 => Said::Event(Event::ProtocolViolation),
         112 => Said::Event(Event::PeerFinishedSending {
-            last_seq_no: seq_in(seq),
+            last_seq_no: o.seq.into(),
         }),
         113 => Said::Event(Event::Ignored(name_in(o.code))),
         _ => Said::CloseTransport,
@@ -96,39 +96,16 @@ fn said_in(o: Out) -> Said
 }
 
 /// Whether kind and code of an output are of their lists.
+#[tactic(auto, unfolding(crate::specs::Outputs::is_said))]
 fn is_said(o: Out) -> bool
     ensures { result ≡ is_said o }
 {
-    let kind = o.kind;
-    match kind {
-        1 => true,
-        32 => true,
-        34 => true,
-        35 => true,
-        36 => true,
-        37 => listed(o.code, 3),
+    match o.kind {
+        37 | 105 => listed(o.code, 3),
         38 => listed(o.code, 4),
-        40 => true,
-        42 => true,
-        101 => is_name(o.code),
-        102 => true,
-        103 => true,
-        104 => true,
-        105 => listed(o.code, 3),
-        106 => true,
-        107 => true,
-        108 => true,
-        109 => {
-            if !listed(o.by, 2) {
-                return false;
-            }
-            listed(o.code, 4)
-        }
-        110 => true,
-        111 => true,
-        112 => true,
-        113 => is_name(o.code),
-        _ => false,
+        101 | 113 => is_name(o.code),
+        109 => listed(o.by, 2) && listed(o.code, 4),
+        kind => matches!(kind, 1 | 32 | 34..=36 | 40 | 42 | 102..=104 | 106..=108 | 110..=112),
     }
 }
 
@@ -136,7 +113,6 @@ fn is_said(o: Out) -> bool
 fn bare(kind: u8) -> Out
     ensures { result ≡ bare_out kind }
 {
-    let none = Reason::none();
     Out {
         kind,
         code: 1,
@@ -147,8 +123,8 @@ fn bare(kind: u8) -> Out
         stamp: 0,
         number: 0,
         length: 0,
-        seq: no_number(),
-        text: text_out(none),
+        seq: Number::default(),
+        text: Reason::none().into(),
     }
 }
 
@@ -156,197 +132,156 @@ fn bare(kind: u8) -> Out
 fn coded(kind: u8, code: u8) -> Out
     ensures { result ≡ coded_out kind code }
 {
-    let mut o = bare(kind);
-    o.code = code;
-    o
+    Out { code, ..bare(kind) }
 }
 
 /// An output of that kind with a number and a count.
 fn counted(kind: u8, number: SeqNum, count: u32) -> Out
     ensures { result ≡ counted_out kind number count }
 {
-    let mut o = bare(kind);
-    o.number = number.0;
-    o.count = count;
-    o
+    Out {
+        number: number.0,
+        count,
+        ..bare(kind)
+    }
 }
 
 /// A message sent.
-fn message_out(message: SessionMessage) -> Out
-    ensures { result ≡ message_out message }
-{
-    match message {
-        SessionMessage::Sequence(m) => counted(32, m.next_seq_no, 0),
-        SessionMessage::UnsequencedHeartbeat => bare(34),
-        SessionMessage::RetransmitRequest(m) => {
-            let mut o = counted(35, m.from_seq_no, m.count);
-            let id = id_out(m.session_id);
-            o.id = id;
-            o.stamp = m.timestamp.0;
-            o
-        }
-        SessionMessage::Retransmission(m) => {
-            let mut o = counted(36, m.next_seq_no, m.count);
-            let id = id_out(m.session_id);
-            o.id = id;
-            o.stamp = m.request_timestamp.0;
-            o
-        }
-        SessionMessage::RetransmitReject(m) => {
-            let code = m.code;
-            let mut o = coded(37, rejection_out(code));
-            let id = id_out(m.session_id);
-            o.id = id;
-            o.stamp = m.request_timestamp.0;
-            o
-        }
-        SessionMessage::Terminate(m) => {
-            let code = m.code;
-            let mut o = coded(38, termination_out(code));
-            let id = id_out(m.session_id);
-            o.id = id;
-            o
-        }
-        SessionMessage::FinishedReceiving(m) => {
-            let mut o = bare(40);
-            let id = id_out(m.session_id);
-            o.id = id;
-            o
+impl From<SessionMessage> for Out {
+    ghost from_gives = { λ m o. o ≡ message_out m };
+
+    fn from(message: SessionMessage) -> Out {
+        match message {
+            SessionMessage::Sequence(m) => counted(32, m.next_seq_no, 0),
+            SessionMessage::UnsequencedHeartbeat => bare(34),
+            SessionMessage::RetransmitRequest(m) => Out {
+                id: m.session_id.into(),
+                stamp: m.timestamp.0,
+                ..counted(35, m.from_seq_no, m.count)
+            },
+            SessionMessage::Retransmission(m) => Out {
+                id: m.session_id.into(),
+                stamp: m.request_timestamp.0,
+                ..counted(36, m.next_seq_no, m.count)
+            },
+            SessionMessage::RetransmitReject(m) => Out {
+                id: m.session_id.into(),
+                stamp: m.request_timestamp.0,
+                ..coded(37, u8::from(m.code))
+            },
+            SessionMessage::Terminate(m) => Out {
+                id: m.session_id.into(),
+                ..coded(38, u8::from(m.code))
+            },
+            SessionMessage::FinishedReceiving(m) => Out {
+                id: m.session_id.into(),
+                ..bare(40)
+            },
         }
     }
 }
 
 /// An event.
-fn event_out(event: Event) -> Out
-    ensures { result ≡ event_out event }
-{
-    match event {
-        Event::Refused(name) => coded(101, name_out(name)),
-        Event::SequenceGap { from, count } => {
-            let mut o = counted(102, from, 0);
-            o.length = count;
-            o
+impl From<Event> for Out {
+    ghost from_gives = { λ e o. o ≡ event_out e };
+
+    fn from(event: Event) -> Out {
+        match event {
+            Event::Refused(name) => coded(101, u8::from(name)),
+            Event::SequenceGap { from, count } => Out {
+                length: count,
+                ..counted(102, from, 0)
+            },
+            Event::RecoveryComplete => bare(103),
+            Event::RetransmitRequested { from, count } => counted(104, from, count),
+            Event::RetransmitRejected { from, count, code } => Out {
+                code: u8::from(code),
+                ..counted(105, from, count)
+            },
+            Event::RetransmitTimedOut { from, count } => counted(106, from, count),
+            Event::NotApplied { from_seq_no, count } => counted(107, from_seq_no, count),
+            Event::Applied { from_seq_no, count } => counted(108, from_seq_no, count),
+            Event::Terminated { code, by } => Out {
+                by: u8::from(by),
+                ..coded(109, u8::from(code))
+            },
+            Event::KeepaliveLapsed => bare(110),
+            Event::ProtocolViolation => bare(111),
+            Event::PeerFinishedSending { last_seq_no } => Out {
+                seq: last_seq_no.into(),
+                ..bare(112)
+            },
+            Event::Ignored(name) => coded(113, u8::from(name)),
         }
-        Event::RecoveryComplete => bare(103),
-        Event::RetransmitRequested { from, count } => counted(104, from, count),
-        Event::RetransmitRejected { from, count, code } => {
-            let mut o = counted(105, from, count);
-            o.code = rejection_out(code);
-            o
-        }
-        Event::RetransmitTimedOut { from, count } => counted(106, from, count),
-        Event::NotApplied { from_seq_no, count } => counted(107, from_seq_no, count),
-        Event::Applied { from_seq_no, count } => counted(108, from_seq_no, count),
-        Event::Terminated { code, by } => {
-            let mut o = coded(109, termination_out(code));
-            o.by = by_out(by);
-            o
-        }
-        Event::KeepaliveLapsed => bare(110),
-        Event::ProtocolViolation => bare(111),
-        Event::PeerFinishedSending { last_seq_no } => {
-            let mut o = bare(112);
-            let seq = seq_out(last_seq_no);
-            o.seq = seq;
-            o
-        }
-        Event::Ignored(name) => coded(113, name_out(name)),
     }
 }
 
-fn said_out(said: Said) -> Out
-    ensures { result ≡ said_out said }
-{
-    match said {
-        Said::Send(message) => message_out(message),
-        Said::SendApplication { seq, message } => {
-            let mut o = counted(42, message.from_seq_no, message.count);
-            let number = seq_out(seq);
-            o.seq = number;
-            o
+impl From<Said> for Out {
+    ghost from_gives = { λ s o. o ≡ said_out s };
+
+    fn from(said: Said) -> Out {
+        match said {
+            Said::Send(message) => message.into(),
+            Said::SendApplication { seq, message } => Out {
+                seq: seq.into(),
+                ..counted(42, message.from_seq_no, message.count)
+            },
+            Said::CloseTransport => bare(1),
+            Said::Event(event) => event.into(),
         }
-        Said::CloseTransport => bare(1),
-        Said::Event(event) => event_out(event),
     }
 }
 
-fn output_in(o: Out) -> Output
-    ensures { result ≡ output_in o }
-{
-    let text = o.text;
-    let said = said_in(o);
-    let reason = text_in(text);
-    Output {
-        said,
-        reason: o.reason,
-        text: reason,
+impl From<Out> for Output {
+    ghost from_gives = { λ o x. x ≡ output_in o };
+
+    fn from(o: Out) -> Output {
+        Output::new(said_in(o), o.reason, o.text.into())
     }
 }
 
-fn output_out(o: Output) -> Out
-    ensures { result ≡ output_out o }
-{
-    let said = o.said;
-    let reason = o.text;
-    let mut out = said_out(said);
-    let text = text_out(reason);
-    out.reason = o.reason;
-    out.text = text;
-    out
+impl From<Output> for Out {
+    ghost from_gives = { λ x o. o ≡ output_out x };
+
+    fn from(o: Output) -> Out {
+        Out {
+            reason: o.reason,
+            text: o.text.into(),
+            ..o.said.into()
+        }
+    }
 }
 
 /// Place by place, also those that are not queued.
-pub fn queue_in(q: Queue) -> Outputs
-    ensures { result ≡ queue_in q }
-{
-    let mut outputs = Outputs::new();
-    let mut i: usize = 0;
-    while i < MAX_OUTPUTS {
-        let o = q.slots[i];
-        let output = output_in(o);
-        outputs.slots[i] = output;
-        i = i + 1;
+impl From<Queue> for Outputs {
+    ghost from_gives = { λ q outputs. outputs ≡ queue_in q };
+
+    fn from(q: Queue) -> Outputs {
+        Outputs {
+            slots: q.slots.map(Output::from),
+            head: q.head,
+            count: q.count,
+            closing: q.closing,
+        }
     }
-    outputs.head = q.head;
-    outputs.count = q.count;
-    outputs.closing = q.closing;
-    outputs
 }
 
-pub fn queue_out(outputs: Outputs) -> Queue
-    ensures { result ≡ queue_out outputs }
-{
-    let none = bare(1);
-    let mut q = Queue {
-        slots: [none; MAX_OUTPUTS],
-        head: 0,
-        count: 0,
-        closing: false,
-    };
-    let mut i: usize = 0;
-    while i < MAX_OUTPUTS {
-        let output = outputs.slots[i];
-        let o = output_out(output);
-        q.slots[i] = o;
-        i = i + 1;
+impl From<Outputs> for Queue {
+    ghost from_gives = { λ outputs q. q ≡ queue_out outputs };
+
+    fn from(outputs: Outputs) -> Queue {
+        Queue {
+            slots: outputs.slots.map(Out::from),
+            head: outputs.head,
+            count: outputs.count,
+            closing: outputs.closing,
+        }
     }
-    q.head = outputs.head;
-    q.count = outputs.count;
-    q.closing = outputs.closing;
-    q
 }
 
 /// Whether every place holds an output.
 pub fn all_said(q: Queue) -> bool
     ensures { result ≡ all_said q.slots }
 {
-    let mut i: usize = 0;
-    while i < MAX_OUTPUTS {
-        let o = q.slots[i];
-        if !is_said(o) {
-            return false;
-        }
-        i = i + 1;
-    }
-    true
+    q.slots.iter().all(|o| is_said(*o))
 }

@@ -1,10 +1,10 @@
 //! The parts of a record, to and from their mirrors.
 ghost use Rattle.std.specs.Prelude.{◌≡◌};
-ghost use Rattle.library.specs.Parts.{no_number, a_number, seq_in, seq_out, instant_in, instant_out, duration_in, duration_out, id_in, id_out, text_in, text_out};
+ghost use Rattle.library.specs.Parts.{seq_in, seq_out, instant_in, instant_out, duration_in, duration_out, id_in, id_out, text_in, text_out};
 ghost use Rattle.library.specs.Parts.{config_in, config_out, outstanding_in, outstanding_out, replay_in, replay_out, provider_in, provider_out, finished_in, finished_out};
-ghost use Rattle.library.specs.Parts.{state_in, binding_in, bond_of, no_bond, binding_out};
+ghost use Rattle.library.specs.Parts.{state_in, binding_in, no_bond, binding_out};
 
-use crate::codes::{flow_in, flow_out, policy_in, policy_out, termination_in, termination_out};
+use crate::codes::{policy_in, termination_in};
 use crate::mirror::{Asked, Batch, Bond, Finished, Id, Number, Served, Settings, Text};
 use types::binding::{BindState, Binding};
 use types::config::FixpConfig;
@@ -12,334 +12,281 @@ use types::ids::{Instant, Nanotime, SeqNum, SessionId};
 use types::parts::{Outstanding, PeerFinished, Provider, Replay};
 use types::reasons::Reason;
 
-/// No number.
-pub fn no_number() -> Number
-    ensures { result ≡ no_number }
-{
-    Number { some: false, it: 0 }
-}
+impl From<Number> for Option<u64> {
+    ghost from_gives = { λ n d. d ≡ duration_in n };
 
-/// That number.
-pub fn number(it: u64) -> Number
-    ensures { result ≡ a_number it }
-{
-    Number { some: true, it }
-}
-
-pub fn seq_in(n: Number) -> Option<SeqNum>
-    ensures { result ≡ seq_in n }
-{
-    if n.some {
-        return Some(SeqNum(n.it));
-    }
-    None
-}
-
-pub fn seq_out(seq: Option<SeqNum>) -> Number
-    ensures { result ≡ seq_out seq }
-{
-    match seq {
-        Some(n) => number(n.0),
-        None => no_number(),
+    fn from(n: Number) -> Option<u64> {
+        n.some.then_some(n.it)
     }
 }
 
-pub fn instant_in(n: Number) -> Option<Instant>
-    ensures { result ≡ instant_in n }
-{
-    if n.some {
-        return Some(Instant(n.it));
-    }
-    None
-}
+impl From<Option<u64>> for Number {
+    ghost from_gives = { λ d n. n ≡ duration_out d };
 
-pub fn instant_out(instant: Option<Instant>) -> Number
-    ensures { result ≡ instant_out instant }
-{
-    match instant {
-        Some(t) => number(t.0),
-        None => no_number(),
+    fn from(number: Option<u64>) -> Number {
+        match number {
+            Some(it) => Number { some: true, it },
+            None => Number::default(),
+        }
     }
 }
 
-pub fn duration_in(n: Number) -> Option<u64>
-    ensures { result ≡ duration_in n }
-{
-    if n.some {
-        return Some(n.it);
-    }
-    None
-}
+impl From<Number> for Option<SeqNum> {
+    ghost from_gives = { λ n seq. seq ≡ seq_in n };
 
-pub fn duration_out(duration: Option<u64>) -> Number
-    ensures { result ≡ duration_out duration }
-{
-    match duration {
-        Some(n) => number(n),
-        None => no_number(),
+    fn from(n: Number) -> Option<SeqNum> {
+        n.some.then_some(SeqNum(n.it))
     }
 }
 
-pub fn id_in(id: Id) -> SessionId
-    ensures { result ≡ id_in id }
-{
-    SessionId(id.low, id.high)
-}
+impl From<Option<SeqNum>> for Number {
+    ghost from_gives = { λ seq n. n ≡ seq_out seq };
 
-pub fn id_out(id: SessionId) -> Id
-    ensures { result ≡ id_out id }
-{
-    Id {
-        low: id.0,
-        high: id.1,
+    fn from(seq: Option<SeqNum>) -> Number {
+        seq.map(|n| n.0).into()
     }
 }
 
-pub fn text_in(text: Text) -> Reason
-    ensures { result ≡ text_in text }
-{
-    let bytes = text.bytes;
-    Reason {
-        bytes,
-        len: text.len,
+impl From<Number> for Option<Instant> {
+    ghost from_gives = { λ n t. t ≡ instant_in n };
+
+    fn from(n: Number) -> Option<Instant> {
+        n.some.then_some(Instant(n.it))
     }
 }
 
-pub fn text_out(reason: Reason) -> Text
-    ensures { result ≡ text_out reason }
-{
-    let bytes = reason.bytes;
-    Text {
-        bytes,
-        len: reason.len,
+impl From<Option<Instant>> for Number {
+    ghost from_gives = { λ t n. n ≡ instant_out t };
+
+    fn from(instant: Option<Instant>) -> Number {
+        instant.map(|t| t.0).into()
     }
 }
 
-pub fn config_in(c: Settings) -> FixpConfig
-    ensures { result ≡ config_in c }
-{
-    let grace = c.grace;
-    FixpConfig {
-        max_gap_len: c.max_gap_len,
-        max_retransmit_count: c.max_retransmit_count,
-        max_pending_gaps: c.max_pending_gaps,
-        retransmit_timeout: c.timeout,
-        peer_silence_grace: duration_in(grace),
-        retransmit_stall_policy: policy_in(c.policy),
+impl From<Id> for SessionId {
+    ghost from_gives = { λ i s. s ≡ id_in i };
+
+    fn from(id: Id) -> SessionId {
+        SessionId(id.low, id.high)
     }
 }
 
-pub fn config_out(c: FixpConfig) -> Settings
-    ensures { result ≡ config_out c }
-{
-    let grace = c.peer_silence_grace;
-    let policy = c.retransmit_stall_policy;
-    Settings {
-        max_gap_len: c.max_gap_len,
-        max_retransmit_count: c.max_retransmit_count,
-        max_pending_gaps: c.max_pending_gaps,
-        policy: policy_out(policy),
-        timeout: c.retransmit_timeout,
-        grace: duration_out(grace),
+impl From<SessionId> for Id {
+    ghost from_gives = { λ s i. i ≡ id_out s };
+
+    fn from(id: SessionId) -> Id {
+        Id {
+            low: id.0,
+            high: id.1,
+        }
     }
 }
 
-pub fn outstanding_in(o: Asked) -> Option<Outstanding>
-    ensures { result ≡ outstanding_in o }
-{
-    if !o.some {
-        return None;
+impl From<Text> for Reason {
+    ghost from_gives = { λ t r. r ≡ text_in t };
+
+    fn from(text: Text) -> Reason {
+        // tried straight: the borrow checker does not cover an array that goes from field to field
+        let bytes = text.bytes;
+        Reason {
+            bytes,
+            len: text.len,
+        }
     }
-    Some(Outstanding {
-        timestamp: Nanotime(o.stamp),
-        from: SeqNum(o.from),
-        count: o.count,
-        delivered: o.delivered,
-        last_progress: Instant(o.last_progress),
-        interrupted: o.interrupted,
-        batch_complete: o.batch_complete,
-        stall_reported: o.stall_reported,
-    })
 }
 
-pub fn outstanding_out(it: Option<Outstanding>) -> Asked
-    ensures { result ≡ outstanding_out it }
-{
-    match it {
-        Some(o) => Asked {
-            some: true,
+impl From<Reason> for Text {
+    ghost from_gives = { λ r t. t ≡ text_out r };
+
+    fn from(reason: Reason) -> Text {
+        // as above
+        let bytes = reason.bytes;
+        Text {
+            bytes,
+            len: reason.len,
+        }
+    }
+}
+
+impl From<Settings> for FixpConfig {
+    ghost from_gives = { λ c g. g ≡ config_in c };
+
+    fn from(c: Settings) -> FixpConfig {
+        FixpConfig {
+            max_gap_len: c.max_gap_len,
+            max_retransmit_count: c.max_retransmit_count,
+            max_pending_gaps: c.max_pending_gaps,
+            retransmit_timeout: c.timeout,
+            peer_silence_grace: c.grace.into(),
+            retransmit_stall_policy: policy_in(c.policy),
+        }
+    }
+}
+
+impl From<FixpConfig> for Settings {
+    ghost from_gives = { λ g c. c ≡ config_out g };
+
+    fn from(c: FixpConfig) -> Settings {
+        Settings {
+            max_gap_len: c.max_gap_len,
+            max_retransmit_count: c.max_retransmit_count,
+            max_pending_gaps: c.max_pending_gaps,
+            policy: u8::from(c.retransmit_stall_policy),
+            timeout: c.retransmit_timeout,
+            grace: c.peer_silence_grace.into(),
+        }
+    }
+}
+
+impl From<Asked> for Option<Outstanding> {
+    ghost from_gives = { λ o it. it ≡ outstanding_in o };
+
+    fn from(o: Asked) -> Option<Outstanding> {
+        o.some.then_some(Outstanding {
+            timestamp: Nanotime(o.stamp),
+            from: SeqNum(o.from),
+            count: o.count,
+            delivered: o.delivered,
+            last_progress: Instant(o.last_progress),
             interrupted: o.interrupted,
             batch_complete: o.batch_complete,
             stall_reported: o.stall_reported,
-            count: o.count,
-            delivered: o.delivered,
-            stamp: o.timestamp.0,
-            from: o.from.0,
-            last_progress: o.last_progress.0,
-        },
-        None => Asked {
-            some: false,
-            interrupted: false,
-            batch_complete: false,
-            stall_reported: false,
-            count: 0,
-            delivered: 0,
-            stamp: 0,
-            from: 0,
-            last_progress: 0,
-        },
+        })
     }
 }
 
-pub fn replay_in(b: Batch) -> Option<Replay>
-    ensures { result ≡ replay_in b }
-{
-    if !b.some {
-        return None;
-    }
-    Some(Replay {
-        next: SeqNum(b.next),
-        remaining: b.remaining,
-    })
-}
+impl From<Option<Outstanding>> for Asked {
+    ghost from_gives = { λ it o. o ≡ outstanding_out it };
 
-pub fn replay_out(it: Option<Replay>) -> Batch
-    ensures { result ≡ replay_out it }
-{
-    match it {
-        Some(r) => Batch {
-            some: true,
-            remaining: r.remaining,
-            next: r.next.0,
-        },
-        None => Batch {
-            some: false,
-            remaining: 0,
-            next: 0,
-        },
+    fn from(it: Option<Outstanding>) -> Asked {
+        match it {
+            Some(o) => Asked {
+                some: true,
+                interrupted: o.interrupted,
+                batch_complete: o.batch_complete,
+                stall_reported: o.stall_reported,
+                count: o.count,
+                delivered: o.delivered,
+                stamp: o.timestamp.0,
+                from: o.from.0,
+                last_progress: o.last_progress.0,
+            },
+            None => Asked::default(),
+        }
     }
 }
 
-pub fn provider_in(s: Served) -> Option<Provider>
-    ensures { result ≡ provider_in s }
-{
-    if !s.some {
-        return None;
-    }
-    Some(Provider {
-        request_timestamp: Nanotime(s.stamp),
-        from: SeqNum(s.from),
-        count: s.count,
-        sent: s.sent,
-    })
-}
+impl From<Batch> for Option<Replay> {
+    ghost from_gives = { λ b it. it ≡ replay_in b };
 
-pub fn provider_out(it: Option<Provider>) -> Served
-    ensures { result ≡ provider_out it }
-{
-    match it {
-        Some(p) => Served {
-            some: true,
-            count: p.count,
-            sent: p.sent,
-            stamp: p.request_timestamp.0,
-            from: p.from.0,
-        },
-        None => Served {
-            some: false,
-            count: 0,
-            sent: 0,
-            stamp: 0,
-            from: 0,
-        },
+    fn from(b: Batch) -> Option<Replay> {
+        b.some.then_some(Replay {
+            next: SeqNum(b.next),
+            remaining: b.remaining,
+        })
     }
 }
 
-pub fn finished_in(f: Finished) -> Option<PeerFinished>
-    ensures { result ≡ finished_in f }
-{
-    if !f.some {
-        return None;
+impl From<Option<Replay>> for Batch {
+    ghost from_gives = { λ it b. b ≡ replay_out it };
+
+    fn from(it: Option<Replay>) -> Batch {
+        match it {
+            Some(r) => Batch {
+                some: true,
+                remaining: r.remaining,
+                next: r.next.0,
+            },
+            None => Batch::default(),
+        }
     }
-    let end = f.end;
-    Some(PeerFinished {
-        receiving_sent: f.receiving_sent,
-        end: seq_in(end),
-    })
 }
 
-pub fn finished_out(it: Option<PeerFinished>) -> Finished
-    ensures { result ≡ finished_out it }
-{
-    match it {
-        Some(f) => {
-            let end = f.end;
-            Finished {
+impl From<Served> for Option<Provider> {
+    ghost from_gives = { λ s it. it ≡ provider_in s };
+
+    fn from(s: Served) -> Option<Provider> {
+        s.some.then_some(Provider {
+            request_timestamp: Nanotime(s.stamp),
+            from: SeqNum(s.from),
+            count: s.count,
+            sent: s.sent,
+        })
+    }
+}
+
+impl From<Option<Provider>> for Served {
+    ghost from_gives = { λ it s. s ≡ provider_out it };
+
+    fn from(it: Option<Provider>) -> Served {
+        match it {
+            Some(p) => Served {
+                some: true,
+                count: p.count,
+                sent: p.sent,
+                stamp: p.request_timestamp.0,
+                from: p.from.0,
+            },
+            None => Served::default(),
+        }
+    }
+}
+
+impl From<Finished> for Option<PeerFinished> {
+    ghost from_gives = { λ f it. it ≡ finished_in f };
+
+    fn from(f: Finished) -> Option<PeerFinished> {
+        f.some.then_some(PeerFinished {
+            receiving_sent: f.receiving_sent,
+            end: f.end.into(),
+        })
+    }
+}
+
+impl From<Option<PeerFinished>> for Finished {
+    ghost from_gives = { λ it f. f ≡ finished_out it };
+
+    fn from(it: Option<PeerFinished>) -> Finished {
+        match it {
+            Some(f) => Finished {
                 some: true,
                 receiving_sent: f.receiving_sent,
-                end: seq_out(end),
-            }
+                end: f.end.into(),
+            },
+            None => Finished::default(),
         }
-        None => Finished {
-            some: false,
-            receiving_sent: false,
-            end: no_number(),
-        },
     }
 }
 
 /// The state by its phase: 1 Established, 2 Terminating, 3 Closing.
+#[tactic(auto, unfolding(crate::specs::Parts::state_in))]
 fn state_in(b: Bond) -> BindState
     ensures { result ≡ state_in b }
 {
-    let phase = b.phase;
-    match phase {
+    match b.phase {
         1 => BindState::Established,
         2 => BindState::Terminating {
             sent_at: Instant(b.sent_at),
             code: termination_in(b.code),
         },
-        _ => {
-            let deadline = b.deadline;
-            BindState::Closing {
-                deadline: instant_in(deadline),
-            }
-        }
+        _ => BindState::Closing {
+            deadline: b.deadline.into(),
+        },
     }
 }
 
-pub fn binding_in(b: Bond) -> Option<Binding>
-    ensures { result ≡ binding_in b }
-{
-    if !b.some {
-        return None;
-    }
-    let state = state_in(b);
-    Some(Binding {
-        state: state,
-        local_keepalive: b.local_keepalive,
-        remote_keepalive: b.remote_keepalive,
-        last_keepalive: Instant(b.last_keepalive),
-        last_received: Instant(b.last_received),
-        in_sequence: b.in_sequence,
-    })
-}
+impl From<Bond> for Option<Binding> {
+    ghost from_gives = { λ b it. it ≡ binding_in b };
 
-/// A binding in that phase.
-fn bond(b: Binding, phase: u8, code: u8, sent_at: u64, deadline: Number) -> Bond
-    ensures { result ≡ bond_of b phase code sent_at deadline }
-{
-    Bond {
-        some: true,
-        phase,
-        code,
-        in_sequence: b.in_sequence,
-        sent_at,
-        deadline,
-        local_keepalive: b.local_keepalive,
-        remote_keepalive: b.remote_keepalive,
-        last_keepalive: b.last_keepalive.0,
-        last_received: b.last_received.0,
+    fn from(b: Bond) -> Option<Binding> {
+        b.some.then_some(Binding {
+            state: state_in(b),
+            local_keepalive: b.local_keepalive,
+            remote_keepalive: b.remote_keepalive,
+            last_keepalive: Instant(b.last_keepalive),
+            last_received: Instant(b.last_received),
+            in_sequence: b.in_sequence,
+        })
     }
 }
 
@@ -353,7 +300,7 @@ fn no_bond() -> Bond
         code: 1,
         in_sequence: false,
         sent_at: 0,
-        deadline: no_number(),
+        deadline: Number::default(),
         local_keepalive: 0,
         remote_keepalive: 0,
         last_keepalive: 0,
@@ -361,22 +308,35 @@ fn no_bond() -> Bond
     }
 }
 
-pub fn binding_out(it: Option<Binding>) -> Bond
-    ensures { result ≡ binding_out it }
-{
-    let Some(b) = it else {
-        return no_bond();
-    };
-    let state = b.state;
-    match state {
-        BindState::Established => bond(b, 1, 1, 0, no_number()),
-        BindState::Terminating { sent_at, code } => bond(
-            b,
-            2,
-            termination_out(code),
-            sent_at.0,
-            no_number(),
-        ),
-        BindState::Closing { deadline } => bond(b, 3, 1, 0, instant_out(deadline)),
+impl From<Option<Binding>> for Bond {
+    ghost from_gives = { λ it b. b ≡ binding_out it };
+
+    fn from(it: Option<Binding>) -> Bond {
+        let Some(b) = it else {
+            return no_bond();
+        };
+        let established = Bond {
+            some: true,
+            in_sequence: b.in_sequence,
+            local_keepalive: b.local_keepalive,
+            remote_keepalive: b.remote_keepalive,
+            last_keepalive: b.last_keepalive.0,
+            last_received: b.last_received.0,
+            ..no_bond()
+        };
+        match b.state {
+            BindState::Established => established,
+            BindState::Terminating { sent_at, code } => Bond {
+                phase: 2,
+                code: u8::from(code),
+                sent_at: sent_at.0,
+                ..established
+            },
+            BindState::Closing { deadline } => Bond {
+                phase: 3,
+                deadline: deadline.into(),
+                ..established
+            },
+        }
     }
 }

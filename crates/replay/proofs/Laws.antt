@@ -1,6 +1,6 @@
 -- Laws of the missing figure: a sum taken one gap at a time.
 use Rattle.std.specs.Prelude.{Some, None}
-use Prim.Native.Nat.{ℕ, ◌+◌, ◌-◌, ◌<◌, ◌≤◌}
+use Prim.Native.Nat.{ℕ, ◌+◌, ◌-◌, ◌<◌, ◌≤◌, min}
 use mathlib.Core.Path.{◌≡◌, ap, sym, ◌∙◌}
 use mathlib.Core.List.{List}
 use native.Mathlib.Omega.{arith}
@@ -28,6 +28,14 @@ at-most-fits n = go (dec_lt all_ones n)
     go (no h) = let k : n ≤ all_ones = omega arith in rw (at-most-low n k) k
 
 -- cut first or last
+-- as the library's sum that does not pass it
+pub at-most-min : (n : ℕ) → min n all_ones ≡ at_most n
+at-most-min n = go (dec_lt all_ones n)
+  where
+    go : Dec (all_ones < n) → min n all_ones ≡ at_most n
+    go (yes h) = omega arith ∙ sym (at-most-high n h)
+    go (no h) = omega arith ∙ sym (at-most-low n (omega arith))
+
 pub at-most-then : (a b : ℕ) → at_most (at_most a + b) ≡ at_most (a + b)
 at-most-then a b = go (dec_lt all_ones a)
   where

@@ -16,7 +16,8 @@ use Rattle.rules.specs.Queries.{next_inbound_seq}
 use Rattle.rules.specs.Local.{Refused, passes, refuses}
 use Rattle.rules.specs.Calls.{Ran, opening, opened}
 use Rattle.session.specs.View.{view}
-use Rattle.calls.specs.View.{world_of, Done, opened_as, is_refused}
+use Rattle.calls.specs.View.{world_of, Done, opened_as}
+use Rattle.types.specs.Answers.{is_refused}
 use Rattle.calls.specs.declared.Called.{Called}
 use Rattle.trace.specs.Format.{decode}
 use Rattle.trace.specs.Places.{size_at}

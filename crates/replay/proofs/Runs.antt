@@ -1,5 +1,6 @@
 -- Laws of a run: the records one behind another, what a record leaves, and how the lines go on.
-use Rattle.std.specs.Prelude.{if◌then◌else◌}
+use Rattle.std.specs.Prelude.{if◌then◌else◌, Option}
+use Rattle.std.specs.Borrow.{Bor}
 use Prim.Native.Nat.{ℕ, zero, suc, ◌+◌, ◌-◌, ◌*◌, ◌<◌, ◌≤◌}
 use mathlib.Core.Path.{◌≡◌, refl, ap, sym, subst, ◌∙◌}
 use mathlib.Core.Bool.{Bool, true, false, false≢true}
@@ -23,12 +24,13 @@ use Rattle.calls.specs.View.{world_of, Answered}
 use Rattle.calls.specs.declared.Called.{Called}
 use Rattle.promises.proofs.InOrder.{in-order-is-the-rule, in-order-after}
 use Rattle.trace.specs.Format.{decode, framed, header}
-use Rattle.trace.specs.Places.{size_at}
+use Rattle.trace.specs.Places.{size_at, Next}
 use Rattle.trace.specs.Text.{line_text, stop_text, end_text, Adds}
 use Rattle.trace.specs.declared.records.Record.{Record}
 use Rattle.trace.specs.declared.records.Entry.{Entry}
 use Rattle.trace.specs.declared.records.Entry.TheVariants as entry
 use Rattle.replay.specs.Missing.{missing_figure}
+use Rattle.replay.specs.Stepped.{Stepped}
 use Rattle.replay.specs.Run.{records_from, goes_on, asks, emptied, line_after, lines_from}
 
 -- ---- the records
@@ -71,15 +73,15 @@ open-framed s i l r k o = framed-long s (λ e. false≢true (ap is_open (sym e) 
     is_open entry.Timeout = false
     is_open entry.Malformed = false
 
--- ---- what a record leaves
--- session, binding and queue in order after the rule book's call, the queue emptied, with its answer and the number of its outputs
-pub record Stepped (r : Record) (w : World) (s : Session) (l : Link) (q : Outputs) (a : Answer) (n : ℕ) : Type 0 where
-  pub session : SessWf s
-  pub queue : OutsWf q
-  pub world : world_of s l q ≡ emptied (call (asks r) w).world
-  pub answer : a ≡ (call (asks r) w).answer
-  pub outputs : n ≡ length (call (asks r) w).world.queue.outs
+-- the record read next, of a trace whose bytes are the input's
+pub next-of : (a b : Bor (List ℕ)) (at : ℕ) (r : Option (Bor (List ℕ))) (after : ℕ) → b ≡ a → Next b at r after → Next a at r after
+next-of a b at r after e n = subst (λ (x : Bor (List ℕ)). Next x at r after) e n
 
+-- and of a trace at its start
+pub at-start : (b : Bor (List ℕ)) (at : ℕ) (s : Bor (List ℕ)) (r : Option (Bor (List ℕ))) (after : ℕ) → b ≡ s → at ≡ 0 → Next b at r after → Next s 0 r after
+at-start b at s r after e z n = subst (λ (x : ℕ). Next s x r after) z (next-of s b at r after e n)
+
+-- ---- what a record leaves
 pub stepped_line : (r : Record) (w : World) (s : Session) (l : Link) (q : Outputs) (a : Answer) (n index : ℕ) → Stepped r w s l q a n → line_text index a (link_status l.binding) (next_inbound_seq (view s)) (length (view s).gaps.missing) n ≡ line_after index (call (asks r) w)
 stepped_line r w s l q a n index h =
     λ i. line_text index (h.answer i) (link_status (h.world i).link.binding) (next_inbound_seq (h.world i).session) (length (h.world i).session.gaps.missing) (h.outputs i)

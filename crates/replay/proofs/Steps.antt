@@ -1,5 +1,5 @@
 -- An ordinary record: the few fields that are stored are what the rule book's call leaves.
-use Rattle.std.specs.Prelude.{Some, Ok}
+use Rattle.std.specs.Prelude.{ℕ, Option, Some, Ok}
 use mathlib.Core.Path.{◌≡◌, refl, ap, sym, subst, ◌∙◌}
 use mathlib.Core.Bool.{Bool, true, false, ◌&&◌, ◌||◌}
 use mathlib.Core.List.{List, []}
@@ -17,7 +17,7 @@ use Rattle.rules.specs.State.{queued, closes, did, with_outbound}
 use Rattle.rules.specs.Numbering.{next, accept_live, on_application}
 use Rattle.rules.specs.Peer.{on_peer}
 use Rattle.rules.specs.Local.{passes, send_refused, send_application}
-use Rattle.rules.specs.Calls.{Call, peer_call, application_call, send_call, wrong, does, Ran, ran_as, ran_if, call, sound, has_room, config_fits, max_outs}
+use Rattle.rules.specs.Calls.{World, Call, peer_call, application_call, send_call, wrong, does, Ran, ran_as, ran_if, call, sound, has_room, config_fits, max_outs}
 use Rattle.rings.specs.View.{sound_gaps}
 use Rattle.queue.specs.View.{queue_of, outs_of, OutsWf}
 use Rattle.queue.specs.declared.Outputs.{Outputs}
@@ -32,10 +32,11 @@ use Rattle.trace.specs.declared.records.Entry.{Entry}
 use Rattle.trace.specs.declared.records.Entry.TheVariants as entry
 use Rattle.dispatch.specs.Entries.{call_of}
 use Rattle.replay.specs.Run.{asks, emptied}
-use Rattle.replay.specs.Ordinary.{QuickIs, link_heard, link_kept_alive}
+use Rattle.replay.specs.Ordinary.{QuickAs, link_heard, link_kept_alive}
 use Rattle.replay.specs.declared.ordinary.Quick.TheVariants as quick
 use Rattle.replay.proofs.Links.{then-bound}
-use Rattle.replay.proofs.Runs.{Stepped, no-outs}
+use Rattle.replay.specs.Stepped.{Stepped}
+use Rattle.replay.proofs.Runs.{no-outs}
 
 -- ---- a record that is ready: refusals 1 and 7 do not come
 or-false : (t : Bool) → t || false ≡ t
@@ -120,7 +121,7 @@ module _ (s : Session) (l : Link) (q : Outputs) (e : ready_record s l.reason q �
 
 -- ---- each ordinary record
 -- the fields that an ordinary record may store
-abbrev pub stored : SeqNum → SeqSlot → Bool → Bool → Session → Session
+abbrev pub stored : SeqNum → Option SeqNum → Bool → Bool → Session → Session
 stored outbound inbound start awaiting s =
     record {
       id = s.id;
@@ -140,7 +141,7 @@ stored outbound inbound start awaiting s =
     }
 
 module _ (r : Record) (s : Session) (l : Link) (q : Outputs) where
-  pub live-steps : (n : SeqNum) → QuickIs (quick.Live n) r s l q → Stepped r (world_of s l q) (stored s.outbound_next (Some (next n)) false s.awaiting_resume s) (link_heard r.now l) q (accept_live (Some n)) 0
+  pub live-steps : (n : SeqNum) → QuickAs (quick.Live n) r s l q → Stepped r (world_of s l q) (stored s.outbound_next (Some (next n)) false s.awaiting_resume s) (link_heard r.now l) q (accept_live (Some n)) 0
   live-steps n h =
       let t = h.1 in
       let wf = ready-session s l q t.ready in
@@ -154,7 +155,7 @@ module _ (r : Record) (s : Session) (l : Link) (q : Outputs) where
       (within-bound (world_of s l q) l.binding t.binding (on_application r.now r.stamp (view s)) l.reason t.bound
       ∙ ap (ran_as (queue_of q) l.reason) (t.does.does r.now r.stamp)))
 
-  pub same-steps : QuickIs quick.Same r s l q → Stepped r (world_of s l q) (stored s.outbound_next s.inbound_next s.start_pending false s) (link_heard r.now l) q (Ok verdict.Done) 0
+  pub same-steps : QuickAs quick.Same r s l q → Stepped r (world_of s l q) (stored s.outbound_next s.inbound_next s.start_pending false s) (link_heard r.now l) q (Ok verdict.Done) 0
   same-steps t =
       let wf = ready-session s l q t.ready in
       let s' = stored s.outbound_next s.inbound_next s.start_pending false s in
@@ -168,7 +169,7 @@ module _ (r : Record) (s : Session) (l : Link) (q : Outputs) where
       (within-bound (world_of s l q) l.binding t.binding (on_peer m r.now r.stamp l.reason r.reason (view s)) l.reason t.bound
       ∙ ap (ran_as (queue_of q) l.reason) (t.does.same.does r.now r.stamp l.reason r.reason)))
 
-  pub sent-steps : (n : SeqNum) → QuickIs (quick.Sent n) r s l q → Stepped r (world_of s l q) (stored (next n) s.inbound_next s.start_pending s.awaiting_resume s) (link_kept_alive r.now l) q (Ok (verdict.Sent (Some n))) 0
+  pub sent-steps : (n : SeqNum) → QuickAs (quick.Sent n) r s l q → Stepped r (world_of s l q) (stored (next n) s.inbound_next s.start_pending s.awaiting_resume s) (link_kept_alive r.now l) q (Ok (verdict.Sent (Some n))) 0
   sent-steps n h =
       let t = h.1 in
       let wf = ready-session s l q t.ready in
@@ -183,3 +184,7 @@ module _ (r : Record) (s : Session) (l : Link) (q : Outputs) where
       (within-bound (world_of s l q) l.binding t.binding (send_application r.now (view s)) l.reason t.bound
       ∙ ap (ran_as (queue_of q) l.reason) (d.does r.now
       ∙ ap (λ (x : SeqNum). did (with_outbound (next x) (view s)) (with_keepalive r.now t.binding) [] bound.Stay (Ok (verdict.Sent (Some x)))) (sym t.does.number))))
+
+-- with a link that is the same
+pub linked : {r : Record} {w : World} {s : Session} {l l' : Link} {q : Outputs} {a : Answer} {n : ℕ} → l ≡ l' → Stepped r w s l' q a n → Stepped r w s l q a n
+linked {r = r} {w = w} {s = s} {q = q} {a = a} {n = n} e h = subst (λ (x : Link). Stepped r w s x q a n) (sym e) h

@@ -33,23 +33,23 @@ pub record SameAs (m : PeerMessage) (s : Sess) (b : Binding) : Type 0 where
   pub does : Same true next s b
 
 -- by what was found of an application message, of a message of the peer, and of a send
-abbrev pub LiveIf : Quick → Sess → Binding → Type 0
-LiveIf (quick.Live n) s b = LiveAs n s b
-LiveIf quick.Same s b = ⊥
-LiveIf (quick.Sent n) s b = ⊥
-LiveIf quick.No s b = Unit {0}
+abbrev pub LiveIf : Option Quick → Sess → Binding → Type 0
+LiveIf (Some (quick.Live n)) s b = LiveAs n s b
+LiveIf (Some quick.Same) s b = ⊥
+LiveIf (Some (quick.Sent n)) s b = ⊥
+LiveIf None s b = Unit {0}
 
-abbrev pub SameIf : Quick → PeerMessage → Sess → Binding → Type 0
-SameIf (quick.Live n) m s b = ⊥
-SameIf quick.Same m s b = SameAs m s b
-SameIf (quick.Sent n) m s b = ⊥
-SameIf quick.No m s b = Unit {0}
+abbrev pub SameIf : Option Quick → PeerMessage → Sess → Binding → Type 0
+SameIf (Some (quick.Live n)) m s b = ⊥
+SameIf (Some quick.Same) m s b = SameAs m s b
+SameIf (Some (quick.Sent n)) m s b = ⊥
+SameIf None m s b = Unit {0}
 
-abbrev pub SentIf : Quick → Sess → Binding → Type 0
-SentIf (quick.Live n) s b = ⊥
-SentIf quick.Same s b = ⊥
-SentIf (quick.Sent n) s b = SentAs n s b
-SentIf quick.No s b = Unit {0}
+abbrev pub SentIf : Option Quick → Sess → Binding → Type 0
+SentIf (Some (quick.Live n)) s b = ⊥
+SentIf (Some quick.Same) s b = ⊥
+SentIf (Some (quick.Sent n)) s b = SentAs n s b
+SentIf None s b = Unit {0}
 
 -- the record is bound and good, its queue is empty, and the message's reason fits: refusals 1, 3, 5 and 7 do not come
 pub record Standing (r : Record) (s : Session) (l : Link) (q : Outputs) (P : Binding → Type 0) : Type 0 where
@@ -64,11 +64,15 @@ pub record SequenceIn (r : Record) (s : Sess) (b : Binding) : Type 0 where
   pub entered : r.entry ≡ entry.Peer message
   pub same : SameAs message s b
 
-abbrev pub QuickIs : Quick → Record → Session → Link → Outputs → Type 0
-QuickIs (quick.Live n) r s l q = (r.entry ≡ entry.Application) × Standing r s l q (LiveAs n (view s))
-QuickIs quick.Same r s l q = Standing r s l q (SequenceIn r (view s))
-QuickIs (quick.Sent n) r s l q = (r.entry ≡ entry.Send) × Standing r s l q (SentAs n (view s))
-QuickIs quick.No r s l q = Unit {0}
+-- what an ordinary record is
+abbrev pub QuickAs : Quick → Record → Session → Link → Outputs → Type 0
+QuickAs (quick.Live n) r s l q = (r.entry ≡ entry.Application) × Standing r s l q (LiveAs n (view s))
+QuickAs quick.Same r s l q = Standing r s l q (SequenceIn r (view s))
+QuickAs (quick.Sent n) r s l q = (r.entry ≡ entry.Send) × Standing r s l q (SentAs n (view s))
+
+abbrev pub QuickIs : Option Quick → Record → Session → Link → Outputs → Type 0
+QuickIs None r s l q = Unit {0}
+QuickIs (Some x) r s l q = QuickAs x r s l q
 
 -- ---- what an ordinary record leaves of the binding
 abbrev pub binding_then : (Binding → Binding) → Option Binding → Option Binding

@@ -1,6 +1,5 @@
 -- 01's sample, and the inputs that print less: each holds by computing.
 use Rattle.std.specs.Prelude.{ℕ, zero, suc, ◌+◌, ◌/◌, ◌%◌, ◌≡◌, refl, List, [], ◌∷◌, ◌++◌, length, replicate}
-use Rattle.types.specs.Base.{same_id}
 use Rattle.types.specs.Reasons.{no_text}
 use Rattle.rules.specs.State.{queued, saying, answering, and_then}
 use Rattle.rules.specs.Gaps.{append_gap, record_gap, received_in_overflow, drop_first, consume_missing}

@@ -6,16 +6,20 @@ ghost use Rattle.types.specs.States.{link_status};
 ghost use Rattle.rules.specs.Queries.{next_inbound_seq};
 ghost use Rattle.queue.specs.View.{OutsWf};
 ghost use Rattle.session.specs.View.{view, SessWf};
-ghost use Rattle.calls.specs.View.{world_of, is_refused};
+ghost use Rattle.calls.specs.View.{world_of};
 ghost use Rattle.trace.specs.Text.{line_text, first_text, end_text, stop_text, max_line, Adds};
 ghost use Rattle.replay.specs.Run.{goes_on, lines_from, lines_of, records, records_from, max_input, max_output, Prints, TraceIs};
+ghost use Rattle.replay.specs.Stepped.{Stepped};
 
 use crate::missing::missing_in;
 use crate::ordinary::{Quick, heard, kept_alive, quick_of};
 use calls::Called;
+use queue::Outputs;
 use session::Session;
 use std::io::{self, Read};
-use trace::records::Entry;
+use trace::reader::Trace;
+use trace::records::{Entry, Record};
+use trace::text::RecordLine;
 use types::answers::{Delivery, Refusal, SessionStatus, Verdict};
 use types::binding::Link;
 use types::ids::SeqNum;
@@ -29,55 +33,20 @@ const MAX_INPUT: usize = 65536;
 /// Room for every line of the longest input: a record has at least 20 bytes and a line at most 144. A shorter buffer is not written.
 const MAX_OUTPUT: usize = 524288;
 
-/// The first `n` bytes are written.
-fn write_out<R: Print>(rt: &R, out: &[u8], n: usize) -> io::Result<()>
-    requires { n ≤ length out.now }
-{
-    rt.write_all(&out[..n])
-}
-
-fn wide(n: usize) -> u64
-    ensures { result ≡ n }
-{
-    n as u64
-}
-
 fn status_of(link: Link) -> SessionStatus
     ensures { result ≡ link_status link.binding }
 {
-    let Some(binding) = link.binding else {
-        return SessionStatus::Unbound;
-    };
-    binding.status()
+    match link.binding {
+        Some(binding) => binding.status(),
+        None => SessionStatus::Unbound,
+    }
 }
 
 /// Whether a record may follow an open: neither another open nor malformed.
 fn goes_on(entry: Entry) -> bool
     ensures { result ≡ goes_on entry }
 {
-    match entry {
-        Entry::Open {
-            id,
-            local_flow,
-            remote_flow,
-            config,
-        } => false,
-        Entry::Bind {
-            local_keepalive,
-            remote_keepalive,
-            next,
-        } => true,
-        Entry::Release => true,
-        Entry::Application => true,
-        Entry::Peer(message) => true,
-        Entry::Send => true,
-        Entry::Terminate(code) => true,
-        Entry::Retransmit(count) => true,
-        Entry::Reject(code) => true,
-        Entry::End => true,
-        Entry::Timeout => true,
-        Entry::Malformed => false,
-    }
+    !matches!(entry, Entry::Open { .. } | Entry::Malformed)
 }
 
 /// The line of a record: where session and binding stand after it.
@@ -93,148 +62,189 @@ fn line_of(
     requires { at + max_line ≤ length out.old }
     ensures { Adds out.old at (line_text index answer (link_status link.binding) (next_inbound_seq (view session)) (length (view session).gaps.missing) outputs) max_line out.new result }
 {
-    let gaps = session.gaps;
-    let ring = gaps.missing;
     trace::text::record_line(
         out,
         at,
-        index,
-        answer,
-        status_of(link),
-        session.next_inbound_seq(),
-        wide(ring.len()),
-        outputs,
+        RecordLine {
+            index,
+            answer,
+            status: status_of(link),
+            expected: session.next_inbound_seq(),
+            gaps: session.gaps.missing.len() as u64,
+            outputs,
+        },
     )
 }
 
-/// The records behind an open: their lines from `first` on, and the last line.
-fn run(s: &[u8], start: usize, opened: Called, out: &mut [u8], first: usize) -> usize
-    requires start_in_bounds { start ≤ length s.now }
-    requires s_len_bound { length s.now ≤ max_input }
-    requires le_start { 20 ≤ start }
-    requires sess_wf { (SessWf opened.session × OutsWf opened.queue) × (first ≤ 288) }
-    requires max_output_in_bounds { max_output ≤ length out.old }
-    ensures { Prints out.old first (lines_from 1 (world_of opened.session opened.link opened.queue) (records_from (length s.now - 1) s.now start)) out.new result }
-{
-    let mut session = opened.session;
-    let mut link = opened.link;
-    let mut queue = opened.queue;
-    let mut wrote = first;
-    let mut at = start;
-    let mut index: u64 = 1;
-    while at < s.len() {
-        let r = trace::reader::view(s, at);
-        let record = trace::records::read_record(r);
-        let entry = record.entry;
-        if !goes_on(entry) {
-            return trace::text::stop_line(out, wrote, index);
-        }
-        let now = record.now;
-        let mut answer = Ok(Verdict::Done);
-        let mut outputs: u64 = 0;
-        let quick = quick_of(session, link, queue, record);
+/// Where a run stands between two records.
+#[derive(Clone, Copy)]
+struct Held {
+    session: Session,
+    link: Link,
+    queue: Outputs,
+}
+
+/// What a record is answered, and how many outputs it has.
+#[derive(Clone, Copy)]
+struct Told {
+    answer: Result<Verdict, Refusal>,
+    outputs: u64,
+}
+
+impl Held {
+    /// The call of a record. The queue is emptied behind it.
+    fn step(&mut self, record: Record) -> Told
+        requires session_in_order { SessWf self.old.session }
+        requires queue_in_order { OutsWf self.old.queue }
+        ensures { Stepped «record» (world_of self.old.session self.old.link self.old.queue) self.new.session self.new.link self.new.queue result.answer result.outputs }
+    {
+        let Some(quick) = quick_of(self.session, self.link, self.queue, record) else {
+            return self.plain_step(record);
+        };
         match quick {
             Quick::Live(seq) => {
-                let slot = Some(SeqNum(seq.0 + 1));
-                session.inbound_next = slot;
-                session.start_pending = false;
-                link = heard(link, now);
-                answer = Ok(Verdict::Delivered(Delivery::Accept {
-                    seq: Some(seq),
-                    retransmitted: false,
-                }));
+                self.session.inbound_next = Some(SeqNum(seq.0 + 1));
+                self.session.start_pending = false;
+                self.link = heard(self.link, record.now);
+                Told {
+                    answer: Ok(Verdict::Delivered(Delivery::Accept {
+                        seq: Some(seq),
+                        retransmitted: false,
+                    })),
+                    outputs: 0,
+                }
             }
             Quick::Same => {
-                session.awaiting_resume = false;
-                link = heard(link, now);
+                self.session.awaiting_resume = false;
+                self.link = heard(self.link, record.now);
+                Told {
+                    answer: Ok(Verdict::Done),
+                    outputs: 0,
+                }
             }
             Quick::Sent(seq) => {
-                let following = SeqNum(seq.0 + 1);
-                session.outbound_next = following;
-                link = kept_alive(link, now);
-                answer = Ok(Verdict::Sent(Some(seq)));
-            }
-            Quick::No => {
-                let stamp = record.stamp;
-                let text = record.reason;
-                let done = dispatch::run(session, link, queue, entry, now, stamp, text);
-                session = done.session;
-                link = done.link;
-                queue = done.queue;
-                answer = done.answer;
-                outputs = wide(queue.len());
-                queue.count = 0;
+                self.session.outbound_next = SeqNum(seq.0 + 1);
+                self.link = kept_alive(self.link, record.now);
+                Told {
+                    answer: Ok(Verdict::Sent(Some(seq))),
+                    outputs: 0,
+                }
             }
         }
-        wrote = line_of(out, wrote, index, answer, session, link, outputs);
-        at = at + r.len();
-        index = index + 1;
     }
-    let gaps = session.gaps;
-    trace::text::end_line(out, wrote, missing_in(gaps))
+
+    /// The call of any record.
+    fn plain_step(&mut self, record: Record) -> Told
+        requires session_in_order { SessWf self.old.session }
+        requires queue_in_order { OutsWf self.old.queue }
+        ensures { Stepped «record» (world_of self.old.session self.old.link self.old.queue) self.new.session self.new.link self.new.queue result.answer result.outputs }
+    {
+        let handed = dispatch::run(
+            &mut self.queue,
+            self.session,
+            self.link,
+            record.entry,
+            record.now,
+            record.stamp,
+            record.reason,
+        );
+        self.session = handed.session;
+        self.link = handed.link;
+        let outputs = self.queue.len() as u64;
+        self.queue.count = 0;
+        Told {
+            answer: handed.answer,
+            outputs,
+        }
+    }
+}
+
+/// The records behind an open: their lines from `first` on, and the last line.
+fn run(mut records: Trace, opened: Called, out: &mut [u8], first: usize) -> usize
+    requires in_bounds { records.at ≤ length records.bytes.now }
+    requires input_len { length records.bytes.now ≤ max_input }
+    requires behind_an_open { 20 ≤ records.at }
+    requires in_order { SessWf opened.session × OutsWf opened.queue }
+    requires first_lines { first ≤ 288 }
+    requires room { max_output ≤ length out.old }
+    ensures { Prints out.old first (lines_from 1 (world_of opened.session opened.link opened.queue) (records_from (length records.entry.bytes.now - 1) records.entry.bytes.now records.entry.at)) out.new result }
+{
+    let mut held = Held {
+        session: opened.session,
+        link: opened.link,
+        queue: opened.queue,
+    };
+    let mut wrote = first;
+    let mut index: u64 = 1;
+    while let Some(bytes) = records.next_record() {
+        let record = trace::records::read_record(bytes);
+        if !goes_on(record.entry) {
+            return trace::text::stop_line(out, wrote, index);
+        }
+        let told = held.step(record);
+        wrote = line_of(
+            out,
+            wrote,
+            index,
+            told.answer,
+            held.session,
+            held.link,
+            told.outputs,
+        );
+        index += 1;
+    }
+    trace::text::end_line(out, wrote, missing_in(held.session.gaps))
 }
 
 /// The records behind a refused open: there must be none.
-fn run_refused(s: &[u8], start: usize, out: &mut [u8], at: usize) -> usize
+fn run_refused(records: Trace, out: &mut [u8], at: usize) -> usize
     requires { at + max_line ≤ length out.old }
-    ensures { Adds out.old at (if ltb start (length s.now) then stop_text 1 else end_text 0) max_line out.new result }
+    ensures { Adds out.old at (if ltb records.entry.at (length records.entry.bytes.now) then stop_text 1 else end_text 0) max_line out.new result }
 {
-    if start < s.len() {
+    if records.at < records.bytes.len() {
         return trace::text::stop_line(out, at, 1);
     }
     trace::text::end_line(out, at, 0)
 }
 
-fn is_refused(answer: Result<Verdict, Refusal>) -> bool
-    ensures { result ≡ is_refused answer }
-{
-    match answer {
-        Ok(Verdict::Done) => false,
-        Ok(Verdict::Delivered(delivery)) => false,
-        Ok(Verdict::Sent(seq)) => false,
-        Ok(Verdict::Batch(batch)) => false,
-        Err(refusal) => true,
-    }
-}
-
 /// A trace that is not empty begins with an open.
 fn run_from_open(s: &[u8], out: &mut [u8], first: usize) -> usize
-    requires s_len_bound { length s.now ≤ max_input }
-    requires s_nonzero { (0 < length s.now) × (first ≤ max_line) }
-    requires max_output_in_bounds { max_output ≤ length out.old }
+    requires input_len { length s.now ≤ max_input }
+    requires first_line { first ≤ max_line }
+    requires room { max_output ≤ length out.old }
     ensures { Prints out.old first (lines_of (records s.now)) out.new result }
 {
-    let r = trace::reader::view(s, 0);
-    let record = trace::records::read_record(r);
-    let entry = record.entry;
+    let mut records = Trace::new(s);
+    let Some(bytes) = records.next_record() else {
+        return trace::text::end_line(out, first, 0);
+    };
     let Entry::Open {
         id,
         local_flow,
         remote_flow,
         config,
-    } = entry
+    } = trace::records::read_record(bytes).entry
     else {
         return trace::text::stop_line(out, first, 0);
     };
     let opened = calls::open(id, local_flow, remote_flow, config);
-    let answer = opened.answer;
-    if is_refused(answer) {
+    if opened.answer.is_err() {
         let next = trace::text::record_line(
             out,
             first,
-            0,
-            answer,
-            SessionStatus::Unbound,
-            None,
-            0,
-            0,
+            RecordLine {
+                index: 0,
+                answer: opened.answer,
+                status: SessionStatus::Unbound,
+                expected: None,
+                gaps: 0,
+                outputs: 0,
+            },
         );
-        return run_refused(s, r.len(), out, next);
+        return run_refused(records, out, next);
     }
-    let session = opened.session;
-    let link = opened.link;
-    let next = line_of(out, first, 0, answer, session, link, 0);
-    run(s, r.len(), opened, out, next)
+    let next = line_of(out, first, 0, opened.answer, opened.session, opened.link, 0);
+    run(records, opened, out, next)
 }
 
 /// The text of a trace of at most 65,536 bytes.
@@ -244,9 +254,6 @@ fn run_whole(s: &[u8], out: &mut [u8]) -> usize
     ensures { Prints out.old 0 (first_text ++ lines_of (records s.now)) out.new result }
 {
     let first = trace::text::first_line(out, 0);
-    if s.len() == 0 {
-        return trace::text::end_line(out, first, 0);
-    }
     run_from_open(s, out, first)
 }
 
@@ -266,6 +273,13 @@ pub fn run_trace(s: &[u8], out: &mut [u8]) -> usize
 /// Room for the lines, in a function of its own: a proof that sees the zeros counts them one by one.
 fn room() -> [u8; MAX_OUTPUT] {
     [0u8; MAX_OUTPUT]
+}
+
+/// The first `n` bytes are written.
+fn write_out<R: Print>(rt: &R, out: &[u8], n: usize) -> io::Result<()>
+    requires { n ≤ length out.now }
+{
+    rt.write_all(&out[..n])
 }
 
 /// Runs a whole trace and writes its lines. A write that fails is the only error; some of the lines may be written then.

@@ -1,48 +1,22 @@
 //! The missing figure of a trace's last line (01, "Trace program").
-ghost use Rattle.std.specs.Prelude.{◌≡◌, ◌+◌, ◌-◌, if◌then◌else◌};
+ghost use Rattle.std.specs.Prelude.{◌≡◌, if◌then◌else◌};
 ghost use Rattle.rings.specs.View.{RingWf, list_of, sound_gaps};
-ghost use Rattle.replay.specs.Missing.{at_most, missing_figure};
+ghost use Rattle.replay.specs.Missing.{missing_figure};
 
-use rings::gaps::MAX_GAPS;
+use rings::gaps::{Gaps, MAX_GAPS};
 use rings::ring::Ring;
-use rings::gaps::Gaps;
-use types::ids::ALL_ONES;
-use types::parts::Gap;
-
-/// The length of a gap.
-fn length_of(gap: Gap) -> u64
-    ensures { result ≡ gap.end.0 - gap.from.0 }
-{
-    if gap.end.0 < gap.from.0 {
-        return 0;
-    }
-    gap.end.0 - gap.from.0
-}
-
-/// A sum, or the largest number where it passes that.
-fn add_up(a: u64, b: u64) -> u64
-    ensures { result ≡ at_most (a + b) }
-{
-    if a <= ALL_ONES - b {
-        return a + b;
-    }
-    ALL_ONES
-}
 
 /// The missing figure of a list of gaps that is in order.
-fn sum_of(ring: Ring<MAX_GAPS>) -> u64
-    requires { RingWf ring }
-    ensures { result ≡ missing_figure (list_of ring) }
+fn sum_of(mut left: Ring<MAX_GAPS>) -> u64
+    requires { RingWf left }
+    ensures { result ≡ missing_figure (list_of left) }
 {
-    let mut left = ring;
     let mut sum: u64 = 0;
-    loop {
-        let Some(gap) = left.front() else {
-            return sum;
-        };
-        sum = add_up(sum, length_of(gap));
-        left = left.pop_front();
+    while let Some(gap) = left.front() {
+        sum = sum.saturating_add(gap.end.0.saturating_sub(gap.from.0));
+        left.pop_front();
     }
+    sum
 }
 
 /// The missing figure: the sum of the gap lengths; of a record out of order none.
@@ -52,6 +26,5 @@ pub fn missing_in(gaps: Gaps) -> u64
     if !gaps.sound() {
         return 0;
     }
-    let missing = gaps.missing;
-    sum_of(missing)
+    sum_of(gaps.missing)
 }

@@ -16,119 +16,81 @@ pub enum Quick {
     Live(SeqNum),
     Same,
     Sent(SeqNum),
-    No,
 }
 
 /// Whether an announced number is an ordinary one.
-fn quick_sequence(session: Session, binding: Binding, message: PeerMessage) -> Quick
+fn quick_sequence(session: Session, binding: Binding, message: PeerMessage) -> Option<Quick>
     ensures { SameIf result message (view session) binding }
 {
     let PeerMessage::Sequence(m) = message else {
-        return Quick::No;
+        return None;
     };
-    let next = m.next_seq_no;
-    if fast::same(session, binding, next) {
-        return Quick::Same;
+    if fast::same(session, binding, m.next_seq_no) {
+        return Some(Quick::Same);
     }
-    Quick::No
+    None
 }
 
 /// Whether a live message is an ordinary one.
-fn quick_live(session: Session, binding: Binding) -> Quick
+fn quick_live(session: Session, binding: Binding) -> Option<Quick>
     ensures { LiveIf result (view session) binding }
 {
-    let Some(seq) = fast::live(session, binding) else {
-        return Quick::No;
-    };
+    let seq = fast::live(session, binding)?;
     if seq.0 == ALL_ONES {
-        return Quick::No;
+        return None;
     }
-    Quick::Live(seq)
+    Some(Quick::Live(seq))
 }
 
 /// Whether a message is sent in the ordinary way.
-fn quick_send(session: Session, binding: Binding) -> Quick
+fn quick_send(session: Session, binding: Binding) -> Option<Quick>
     ensures { SentIf result (view session) binding }
 {
     if !fast::sent(session, binding) {
-        return Quick::No;
+        return None;
     }
     let seq = session.outbound_next;
     if seq.0 == ALL_ONES {
-        return Quick::No;
+        return None;
     }
-    Quick::Sent(seq)
+    Some(Quick::Sent(seq))
 }
 
 /// Whether a record is an ordinary one.
-pub fn quick_of(session: Session, link: Link, queue: Outputs, record: Record) -> Quick
+pub fn quick_of(session: Session, link: Link, queue: Outputs, record: Record) -> Option<Quick>
     ensures { QuickIs result «record» session link queue }
 {
-    let Some(binding) = link.binding else {
-        return Quick::No;
-    };
-    let reason = link.reason;
-    if !fast::is_ready(session, reason, queue) {
-        return Quick::No;
+    let binding = link.binding?;
+    if !fast::is_ready(session, link.reason, queue) {
+        return None;
     }
-    let text = record.reason;
-    if !text.fits() {
-        return Quick::No;
+    if !record.reason.fits() {
+        return None;
     }
-    let entry = record.entry;
-    match entry {
-        Entry::Open {
-            id,
-            local_flow,
-            remote_flow,
-            config,
-        } => Quick::No,
-        Entry::Bind {
-            local_keepalive,
-            remote_keepalive,
-            next,
-        } => Quick::No,
-        Entry::Release => Quick::No,
+    match record.entry {
         Entry::Application => quick_live(session, binding),
         Entry::Peer(message) => quick_sequence(session, binding, message),
         Entry::Send => quick_send(session, binding),
-        Entry::Terminate(code) => Quick::No,
-        Entry::Retransmit(count) => Quick::No,
-        Entry::Reject(code) => Quick::No,
-        Entry::End => Quick::No,
-        Entry::Timeout => Quick::No,
-        Entry::Malformed => Quick::No,
+        _ => None,
     }
 }
 
 /// The binding has just heard from the peer.
-pub fn heard(link: Link, now: Instant) -> Link
+pub fn heard(mut link: Link, now: Instant) -> Link
     ensures { result ≡ link_heard now link }
 {
-    let reason = link.reason;
-    let Some(binding) = link.binding else {
-        return link;
-    };
-    let mut after = binding;
-    after.last_received = now;
-    Link {
-        binding: Some(after),
-        reason,
+    if let Some(binding) = &mut link.binding {
+        binding.last_received = now;
     }
+    link
 }
 
 /// The binding has just sent.
-pub fn kept_alive(link: Link, now: Instant) -> Link
+pub fn kept_alive(mut link: Link, now: Instant) -> Link
     ensures { result ≡ link_kept_alive now link }
 {
-    let reason = link.reason;
-    let Some(binding) = link.binding else {
-        return link;
-    };
-    let mut after = binding;
-    after.last_keepalive = now;
-    Link {
-        binding: Some(after),
-        reason,
+    if let Some(binding) = &mut link.binding {
+        binding.last_keepalive = now;
     }
+    link
 }

@@ -14,7 +14,7 @@ pub const MAX_LINE: usize = 144;
 
 /// The number of a refusal in 01's table.
 // No `From`: the two types are of crates below, and the table that the contract cites stands above them.
-pub fn refusal_number(refusal: Refusal) -> u64
+pub fn refusal_number(refusal: Refusal) -> u8
     ensures { result ≡ refusal_number refusal }
 {
     match refusal {
@@ -143,7 +143,7 @@ impl<'a> Text<'a> {
             Ok(verdict) => self.verdict(verdict),
             Err(refusal) => {
                 self.word(b"refused");
-                self.colon(refusal_number(refusal));
+                self.colon(u64::from(refusal_number(refusal)));
             }
         }
     }

@@ -8,6 +8,10 @@ use Rattle.types.specs.declared.ids.RetransmitRejectCode.{RetransmitRejectCode}
 use Rattle.types.specs.declared.ids.RetransmitRejectCode.TheVariants as rejection
 use Rattle.types.specs.declared.config.RetransmitStallPolicy.{RetransmitStallPolicy}
 use Rattle.types.specs.declared.config.RetransmitStallPolicy.TheVariants as policy
+use Rattle.types.specs.declared.output.TerminatedBy.{TerminatedBy}
+use Rattle.types.specs.declared.output.TerminatedBy.TheVariants as by
+use Rattle.types.specs.declared.messages.MessageName.{MessageName}
+use Rattle.types.specs.declared.messages.MessageName.TheVariants as name
 
 -- 01: "Flows 1 to 4"
 abbrev pub flow_number : FlowType → ℕ
@@ -68,3 +72,25 @@ policy_number policy.Terminate = 1
 policy_number policy.ReRequestAfterContextSwitch = 2
 policy_number policy.ReRequestAfterBatch = 3
 policy_number policy.EventOnly = 4
+
+-- who ended a binding: 1 this side, 2 the peer
+abbrev pub by_number : TerminatedBy → ℕ
+by_number by.Local = 1
+by_number by.Peer = 2
+
+-- the kind of the message's trace record (01, "Trace program")
+abbrev pub name_number : MessageName → ℕ
+name_number name.ApplicationMessage = 4
+name_number name.Sequence = 32
+name_number name.Context = 33
+name_number name.UnsequencedHeartbeat = 34
+name_number name.RetransmitRequest = 35
+name_number name.Retransmission = 36
+name_number name.RetransmitReject = 37
+name_number name.Terminate = 38
+name_number name.FinishedSending = 39
+name_number name.FinishedReceiving = 40
+name_number name.Applied = 41
+name_number name.NotApplied = 42
+name_number name.Topic = 43
+name_number name.MessageTemplate = 44

@@ -21,20 +21,20 @@ pub struct RetransmitBatch {
 /// Where a session stands, as a line of the trace prints it.
 #[derive(Clone, Copy)]
 pub enum SessionStatus {
-    Unbound,
-    Established,
-    Terminating,
-    Closing,
+    Unbound = 0,
+    Established = 1,
+    Terminating = 2,
+    Closing = 3,
 }
 
-/// The local calls that refusal 8 names.
+/// The local calls that refusal 8 names, by the numbers of their trace records (01).
 #[derive(Clone, Copy)]
 pub enum Operation {
-    SendApplication,
-    Terminate,
-    Retransmit,
-    RejectRetransmitRequest,
-    EndRetransmission,
+    SendApplication = 64,
+    Terminate = 65,
+    Retransmit = 66,
+    RejectRetransmitRequest = 67,
+    EndRetransmission = 68,
 }
 
 /// Why a call was refused: 01's table, in its order.

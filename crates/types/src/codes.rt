@@ -1,10 +1,12 @@
 //! The numbers of 01's lists, of one byte each, and what they stand for.
 ghost use Rattle.std.specs.Prelude.{◌≡◌};
-ghost use Rattle.types.specs.Flows.{flow_number, policy_number, termination_number, rejection_number};
-ghost use Rattle.types.specs.Codes.{flow_of, policy_of, termination_of, rejection_of};
+ghost use Rattle.types.specs.Flows.{flow_number, policy_number, termination_number, rejection_number, by_number, name_number};
+ghost use Rattle.types.specs.Codes.{flow_of, policy_of, termination_of, rejection_of, by_of, name_of_number};
 
 use crate::config::RetransmitStallPolicy;
 use crate::ids::{FlowType, RetransmitRejectCode, TerminationCode};
+use crate::messages::MessageName;
+use crate::output::TerminatedBy;
 
 /// A code outside its list.
 #[derive(Clone, Copy, PartialEq, Eq)]
@@ -106,5 +108,63 @@ impl From<RetransmitRejectCode> for u8 {
         ensures { result ≡ rejection_number code }
     {
         code as u8
+    }
+}
+
+impl TryFrom<u8> for TerminatedBy {
+    type Error = Unlisted;
+
+    #[tactic(auto, unfolding(crate::specs::Codes::by_of))]
+    fn try_from(code: u8) -> Result<TerminatedBy, Unlisted>
+        ensures { result ≡ by_of code }
+    {
+        match code {
+            1 => Ok(TerminatedBy::Local),
+            2 => Ok(TerminatedBy::Peer),
+            _ => Err(Unlisted),
+        }
+    }
+}
+
+impl From<TerminatedBy> for u8 {
+    fn from(by: TerminatedBy) -> u8
+        ensures { result ≡ by_number by }
+    {
+        by as u8
+    }
+}
+
+impl TryFrom<u8> for MessageName {
+    type Error = Unlisted;
+
+    #[tactic(auto, unfolding(crate::specs::Codes::name_of_number))]
+    fn try_from(code: u8) -> Result<MessageName, Unlisted>
+        ensures { result ≡ name_of_number code }
+    {
+        match code {
+            4 => Ok(MessageName::ApplicationMessage),
+            32 => Ok(MessageName::Sequence),
+            33 => Ok(MessageName::Context),
+            34 => Ok(MessageName::UnsequencedHeartbeat),
+            35 => Ok(MessageName::RetransmitRequest),
+            36 => Ok(MessageName::Retransmission),
+            37 => Ok(MessageName::RetransmitReject),
+            38 => Ok(MessageName::Terminate),
+            39 => Ok(MessageName::FinishedSending),
+            40 => Ok(MessageName::FinishedReceiving),
+            41 => Ok(MessageName::Applied),
+            42 => Ok(MessageName::NotApplied),
+            43 => Ok(MessageName::Topic),
+            44 => Ok(MessageName::MessageTemplate),
+            _ => Err(Unlisted),
+        }
+    }
+}
+
+impl From<MessageName> for u8 {
+    fn from(name: MessageName) -> u8
+        ensures { result ≡ name_number name }
+    {
+        name as u8
     }
 }

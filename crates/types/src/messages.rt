@@ -95,23 +95,23 @@ pub enum PeerMessage {
     MessageTemplate,
 }
 
-/// The names that Ignored and Refused give.
+/// The names that Ignored and Refused give; each has the number of its trace record (01).
 #[derive(Clone, Copy)]
 pub enum MessageName {
-    Topic,
-    Sequence,
-    Context,
-    UnsequencedHeartbeat,
-    RetransmitRequest,
-    Retransmission,
-    RetransmitReject,
-    Terminate,
-    FinishedSending,
-    FinishedReceiving,
-    Applied,
-    NotApplied,
-    MessageTemplate,
-    ApplicationMessage,
+    Topic = 43,
+    Sequence = 32,
+    Context = 33,
+    UnsequencedHeartbeat = 34,
+    RetransmitRequest = 35,
+    Retransmission = 36,
+    RetransmitReject = 37,
+    Terminate = 38,
+    FinishedSending = 39,
+    FinishedReceiving = 40,
+    Applied = 41,
+    NotApplied = 42,
+    MessageTemplate = 44,
+    ApplicationMessage = 4,
 }
 
 impl PeerMessage {

@@ -9,8 +9,8 @@ use crate::reasons::Reason;
 /// Who ended a binding.
 #[derive(Clone, Copy)]
 pub enum TerminatedBy {
-    Local,
-    Peer,
+    Local = 1,
+    Peer = 2,
 }
 
 /// What is reported to the application. Reasons stand beside, in the Output.

@@ -1,39 +1,9 @@
--- Refused in the order of the table; else the step.
-use borrow.Author.Tests.{leb-true}
-use native.Mathlib.Omega.{arith}
-use Prim.Native.Nat.{◌+◌}
-use mathlib.Core.Path.{ap, ◌∙◌}
-use mathlib.Core.Bool.{Bool}
-use lib.ListN.{length}
-use Rattle.rules.specs.Names.refusal
-use Rattle.rules.specs.Deadlines.{on_timeout}
-use Rattle.rules.specs.Local.{passes, unless}
-use Rattle.queue.specs.View.{queue_of}
-use Rattle.session.specs.View.{view}
-use Rattle.session.proofs.Laws.{is_false, is_true}
-use Rattle.calls.proofs.Laws.{good-queue, good-session, of-good, of-bad, if-unbound, if-bound, within-bound, answer-refused, answer-done}
+-- Refused as the tests say; else the step.
+use Rattle.calls.proofs.Laws.{answer-refused, answer-step}
 use Rattle.calls.proofs.on_timeout.Goals as goal
 
-pub returns-then-not-is_good : goal.returns-then-not-is_good
-returns-then-not-is_good c = answer-refused _ _ _ _ c.args.session c.args.link c.args.queue (of-bad c.args.session c.args.link c.args.queue _ (is_false c.is_good.ensures c.if-not-is_good.true)) c.refused.ensures
+pub returns-in-Err : goal.returns-in-Err
+returns-in-Err c = answer-refused _ _ (c.in-Err.ensures.is _) c.refused.ensures
 
-pub returns-in_default : goal.returns-in_default
-returns-in_default c = answer-refused _ _ _ _ c.args.session c.args.link c.args.queue (of-good c.args.session c.args.link c.args.queue (is_true c.is_good.ensures c.if-not-is_good.false) _ _ ∙ if-unbound _ _ c.in_default.is) c.refused-in_default.ensures
-
-pub has_room-requires : goal.has_room-requires
-has_room-requires c = good-queue c.args.session c.args.link c.args.queue (is_true c.is_good.ensures c.if-not-is_good.false)
-
-pub returns-then-not-has_room : goal.returns-then-not-has_room
-returns-then-not-has_room c = answer-refused _ _ _ _ c.args.session c.args.link c.args.queue (of-good c.args.session c.args.link c.args.queue (is_true c.is_good.ensures c.if-not-is_good.false) _ _ ∙ if-bound _ c.in-Some.binding _ c.in-Some.is ∙ ap (λ (t : Bool). unless t refusal.OutputFull passes) (is_false c.has_room.ensures c.if-not-has_room.true)) c.refused-then-not-has_room.ensures
-
-pub on_timeout-step-requires-clause-sess_wf : goal.on_timeout-step-requires-clause-sess_wf
-on_timeout-step-requires-clause-sess_wf c = good-session c.args.session c.args.link c.args.queue (is_true c.is_good.ensures c.if-not-is_good.false)
-
-pub on_timeout-step-requires-clause-outs_wf : goal.on_timeout-step-requires-clause-outs_wf
-on_timeout-step-requires-clause-outs_wf c = good-queue c.args.session c.args.link c.args.queue (is_true c.is_good.ensures c.if-not-is_good.false)
-
-pub on_timeout-step-requires-clause-queue_len_bound : goal.on_timeout-step-requires-clause-queue_len_bound
-on_timeout-step-requires-clause-queue_len_bound c = omega (arith, leb-true (length (queue_of c.args.queue).outs + 6) 32 (is_true c.has_room.ensures c.if-not-has_room.false))
-
-pub returns : goal.returns
-returns c = answer-done _ _ _ _ _ _ c.args.session c.args.link c.args.queue (of-good c.args.session c.args.link c.args.queue (is_true c.is_good.ensures c.if-not-is_good.false) _ _ ∙ if-bound _ c.in-Some.binding _ c.in-Some.is ∙ ap (λ (t : Bool). unless t refusal.OutputFull passes) (is_true c.has_room.ensures c.if-not-has_room.false)) c.answered.ensures (within-bound _ _ _ (on_timeout c.args.now c.args.stamp c.args.link.reason (view c.args.session)) _ c.in-Some.is) c.on_timeout-step.ensures
+pub returns-in-Ok : goal.returns-in-Ok
+returns-in-Ok c = answer-step _ _ c.in-Ok.ensures.ready _ (c.in-Ok.ensures.is _) c.answered.ensures c.on_timeout.ensures

@@ -1,46 +1,9 @@
--- Refused in the order of the table, then of the Rust; else the step.
-use borrow.Author.Tests.{eq-eqb, ne_eqb, leb-true}
-use native.Mathlib.Omega.{arith}
-use Prim.Native.Nat.{◌+◌}
-use mathlib.Core.Path.{ap, ◌∙◌}
-use mathlib.Core.Bool.{Bool, not}
-use lib.ListN.{length}
-use Rattle.rules.specs.Names.refusal
-use Rattle.rules.specs.Local.{unless, retransmit_refused, retransmit}
-use Rattle.rules.specs.Calls.{within, has_room}
-use Rattle.queue.specs.View.{queue_of}
-use Rattle.session.specs.View.{view}
-use Rattle.session.proofs.Laws.{is_false, is_true}
-use Rattle.calls.specs.View.{world_of}
-use Rattle.calls.proofs.Laws.{good-queue, good-session, of-good, of-bad, if-unbound, if-bound, within-bound, answer-refused, answer-as, local-refused, local-done, batch-answers}
+-- Refused as the tests say, then as the Rust does; else the step.
+use Rattle.calls.proofs.Laws.{answer-refused, answer-local}
 use Rattle.calls.proofs.retransmit.Goals as goal
 
-pub returns-then-not-is_good : goal.returns-then-not-is_good
-returns-then-not-is_good c = answer-refused _ _ _ _ c.args.session c.args.link c.args.queue (of-bad c.args.session c.args.link c.args.queue _ (is_false c.is_good.ensures c.if-not-is_good.true)) c.refused.ensures
+pub returns-in-Err : goal.returns-in-Err
+returns-in-Err c = answer-refused _ _ (c.in-Err.ensures.is _) c.refused.ensures
 
-pub returns-in_default : goal.returns-in_default
-returns-in_default c = answer-refused _ _ _ _ c.args.session c.args.link c.args.queue (of-good c.args.session c.args.link c.args.queue (is_true c.is_good.ensures c.if-not-is_good.false) _ _ ∙ if-unbound _ _ c.in_default.is) c.refused-in_default.ensures
-
-pub returns-then-count-eq0 : goal.returns-then-count-eq0
-returns-then-count-eq0 c = answer-refused _ _ _ _ c.args.session c.args.link c.args.queue (of-good c.args.session c.args.link c.args.queue (is_true c.is_good.ensures c.if-not-is_good.false) _ _ ∙ if-bound _ c.in-Some.binding _ c.in-Some.is ∙ ap (λ (t : Bool). unless (not t) refusal.ZeroCount (unless (has_room (queue_of c.args.queue)) refusal.OutputFull (retransmit_refused c.args.count (view c.args.session) c.in-Some.binding))) (eq-eqb c.args.count 0 c.if-count-eq0.true)) c.refused-then-count-eq0.ensures
-
-pub has_room-requires : goal.has_room-requires
-has_room-requires c = good-queue c.args.session c.args.link c.args.queue (is_true c.is_good.ensures c.if-not-is_good.false)
-
-pub returns-then-not-has_room : goal.returns-then-not-has_room
-returns-then-not-has_room c = answer-refused _ _ _ _ c.args.session c.args.link c.args.queue (of-good c.args.session c.args.link c.args.queue (is_true c.is_good.ensures c.if-not-is_good.false) _ _ ∙ if-bound _ c.in-Some.binding _ c.in-Some.is ∙ ap (λ (t : Bool). unless (not t) refusal.ZeroCount (unless (has_room (queue_of c.args.queue)) refusal.OutputFull (retransmit_refused c.args.count (view c.args.session) c.in-Some.binding))) (ne_eqb c.args.count 0 c.if-count-eq0.false) ∙ ap (λ (t : Bool). unless t refusal.OutputFull (retransmit_refused c.args.count (view c.args.session) c.in-Some.binding)) (is_false c.has_room.ensures c.if-not-has_room.true)) c.refused-then-not-has_room.ensures
-
-pub retransmit-step-requires-clause-sess_wf : goal.retransmit-step-requires-clause-sess_wf
-retransmit-step-requires-clause-sess_wf c = good-session c.args.session c.args.link c.args.queue (is_true c.is_good.ensures c.if-not-is_good.false)
-
-pub retransmit-step-requires-clause-outs_wf : goal.retransmit-step-requires-clause-outs_wf
-retransmit-step-requires-clause-outs_wf c = good-queue c.args.session c.args.link c.args.queue (is_true c.is_good.ensures c.if-not-is_good.false)
-
-pub retransmit-step-requires-clause-queue_len_bound : goal.retransmit-step-requires-clause-queue_len_bound
-retransmit-step-requires-clause-queue_len_bound c = omega (arith, leb-true (length (queue_of c.args.queue).outs + 6) 32 (is_true c.has_room.ensures c.if-not-has_room.false))
-
-pub returns-then-is_err : goal.returns-then-is_err
-returns-then-is_err c = answer-as _ (retransmit_refused c.args.count (view c.args.session) c.in-Some.binding) _ (within (world_of c.args.session c.args.link c.args.queue) c.args.link.binding (retransmit c.args.now c.args.count (view c.args.session)) c.args.link.reason) c.args.session c.args.link c.args.queue (of-good c.args.session c.args.link c.args.queue (is_true c.is_good.ensures c.if-not-is_good.false) _ _ ∙ if-bound _ c.in-Some.binding _ c.in-Some.is ∙ ap (λ (t : Bool). unless (not t) refusal.ZeroCount (unless (has_room (queue_of c.args.queue)) refusal.OutputFull (retransmit_refused c.args.count (view c.args.session) c.in-Some.binding))) (ne_eqb c.args.count 0 c.if-count-eq0.false) ∙ ap (λ (t : Bool). unless t refusal.OutputFull (retransmit_refused c.args.count (view c.args.session) c.in-Some.binding)) (is_true c.has_room.ensures c.if-not-has_room.false)) (local-refused (retransmit_refused c.args.count (view c.args.session) c.in-Some.binding) c.retransmit-step.result c.in-Some.binding (retransmit c.args.now c.args.count (view c.args.session) c.in-Some.binding) (within (world_of c.args.session c.args.link c.args.queue) c.args.link.binding (retransmit c.args.now c.args.count (view c.args.session)) c.args.link.reason) c.args.session c.args.link c.args.queue c.retransmit-step.ensures (batch-answers c.args.now c.args.count (view c.args.session) c.in-Some.binding) (is_true c.is_err.ensures.value c.if-is_err.true))
-
-pub returns : goal.returns
-returns c = answer-as _ (retransmit_refused c.args.count (view c.args.session) c.in-Some.binding) _ (within (world_of c.args.session c.args.link c.args.queue) c.args.link.binding (retransmit c.args.now c.args.count (view c.args.session)) c.args.link.reason) c.args.session c.args.link c.args.queue (of-good c.args.session c.args.link c.args.queue (is_true c.is_good.ensures c.if-not-is_good.false) _ _ ∙ if-bound _ c.in-Some.binding _ c.in-Some.is ∙ ap (λ (t : Bool). unless (not t) refusal.ZeroCount (unless (has_room (queue_of c.args.queue)) refusal.OutputFull (retransmit_refused c.args.count (view c.args.session) c.in-Some.binding))) (ne_eqb c.args.count 0 c.if-count-eq0.false) ∙ ap (λ (t : Bool). unless t refusal.OutputFull (retransmit_refused c.args.count (view c.args.session) c.in-Some.binding)) (is_true c.has_room.ensures c.if-not-has_room.false)) (local-done (retransmit_refused c.args.count (view c.args.session) c.in-Some.binding) _ c.retransmit-step.result c.in-Some.binding (retransmit c.args.now c.args.count (view c.args.session) c.in-Some.binding) c.args.link.reason (within (world_of c.args.session c.args.link c.args.queue) c.args.link.binding (retransmit c.args.now c.args.count (view c.args.session)) c.args.link.reason) c.args.session c.args.link c.args.queue c.retransmit-step.ensures (is_false c.is_err.ensures.value c.if-is_err.false) c.answered.ensures (within-bound _ _ _ (retransmit c.args.now c.args.count (view c.args.session)) _ c.in-Some.is))
+pub returns-in-Ok : goal.returns-in-Ok
+returns-in-Ok c = answer-local _ _ c.in-Ok.ensures.ready _ _ (c.in-Ok.ensures.is _) c.answered.ensures c.retransmit.ensures

@@ -1,43 +1,13 @@
--- Refused in the order of the table, then of the Rust; else the step.
-use borrow.Author.Tests.{leb-true}
-use native.Mathlib.Omega.{arith}
-use Prim.Native.Nat.{◌+◌}
-use mathlib.Core.Path.{ap, ◌∙◌}
-use mathlib.Core.Bool.{Bool}
-use lib.ListN.{length}
-use Rattle.rules.specs.Names.refusal
-use Rattle.rules.specs.Local.{unless, terminate_refused, terminate}
-use Rattle.rules.specs.Calls.{within}
-use Rattle.queue.specs.View.{queue_of}
+-- Refused as the tests say, then as the Rust does, with the reason that stood; else the step, with the reason that is given.
 use Rattle.session.specs.View.{view}
-use Rattle.session.proofs.Laws.{is_false, is_true}
-use Rattle.calls.specs.View.{world_of}
-use Rattle.calls.proofs.Laws.{good-queue, good-session, of-good, of-bad, if-unbound, if-bound, within-bound, answer-refused, answer-as, local-refused, local-done, terminated-answers}
+use Rattle.calls.proofs.Laws.{answer-refused, answer-set, answer-kept, terminated-answers}
 use Rattle.calls.proofs.terminate.Goals as goal
 
-pub returns-then-not-is_good : goal.returns-then-not-is_good
-returns-then-not-is_good c = answer-refused _ _ _ _ c.args.session c.args.link c.args.queue (of-bad c.args.session c.args.link c.args.queue _ (is_false c.is_good.ensures c.if-not-is_good.true)) c.refused.ensures
+pub returns-in-Err : goal.returns-in-Err
+returns-in-Err c = answer-refused _ _ (c.in-Err.ensures.is _) c.refused.ensures
 
-pub returns-in_default : goal.returns-in_default
-returns-in_default c = answer-refused _ _ _ _ c.args.session c.args.link c.args.queue (of-good c.args.session c.args.link c.args.queue (is_true c.is_good.ensures c.if-not-is_good.false) _ _ ∙ if-unbound _ _ c.in_default.is) c.refused-in_default.ensures
+pub returns-in-Ok-answer : goal.returns-in-Ok-answer
+returns-in-Ok-answer c = answer-set _ _ c.in-Ok.ensures.ready _ _ _ _ (c.in-Ok.ensures.is _) c.in-Ok-answer.is c.answered.ensures c.terminate-step.ensures
 
-pub has_room-requires : goal.has_room-requires
-has_room-requires c = good-queue c.args.session c.args.link c.args.queue (is_true c.is_good.ensures c.if-not-is_good.false)
-
-pub returns-then-not-has_room : goal.returns-then-not-has_room
-returns-then-not-has_room c = answer-refused _ _ _ _ c.args.session c.args.link c.args.queue (of-good c.args.session c.args.link c.args.queue (is_true c.is_good.ensures c.if-not-is_good.false) _ _ ∙ if-bound _ c.in-Some.binding _ c.in-Some.is ∙ ap (λ (t : Bool). unless t refusal.OutputFull (terminate_refused c.args.text (view c.args.session) c.in-Some.binding)) (is_false c.has_room.ensures c.if-not-has_room.true)) c.refused-then-not-has_room.ensures
-
-pub terminate-step-requires-clause-sess_wf : goal.terminate-step-requires-clause-sess_wf
-terminate-step-requires-clause-sess_wf c = good-session c.args.session c.args.link c.args.queue (is_true c.is_good.ensures c.if-not-is_good.false)
-
-pub terminate-step-requires-clause-outs_wf : goal.terminate-step-requires-clause-outs_wf
-terminate-step-requires-clause-outs_wf c = good-queue c.args.session c.args.link c.args.queue (is_true c.is_good.ensures c.if-not-is_good.false)
-
-pub terminate-step-requires-clause-queue_len_bound : goal.terminate-step-requires-clause-queue_len_bound
-terminate-step-requires-clause-queue_len_bound c = omega (arith, leb-true (length (queue_of c.args.queue).outs + 6) 32 (is_true c.has_room.ensures c.if-not-has_room.false))
-
-pub returns-then-is_err : goal.returns-then-is_err
-returns-then-is_err c = answer-as _ (terminate_refused c.args.text (view c.args.session) c.in-Some.binding) _ (within (world_of c.args.session c.args.link c.args.queue) c.args.link.binding (terminate c.args.now c.args.code c.args.text (view c.args.session)) c.args.text) c.args.session c.args.link c.args.queue (of-good c.args.session c.args.link c.args.queue (is_true c.is_good.ensures c.if-not-is_good.false) _ _ ∙ if-bound _ c.in-Some.binding _ c.in-Some.is ∙ ap (λ (t : Bool). unless t refusal.OutputFull (terminate_refused c.args.text (view c.args.session) c.in-Some.binding)) (is_true c.has_room.ensures c.if-not-has_room.false)) (local-refused (terminate_refused c.args.text (view c.args.session) c.in-Some.binding) c.terminate-step.result c.in-Some.binding (terminate c.args.now c.args.code c.args.text (view c.args.session) c.in-Some.binding) (within (world_of c.args.session c.args.link c.args.queue) c.args.link.binding (terminate c.args.now c.args.code c.args.text (view c.args.session)) c.args.text) c.args.session c.args.link c.args.queue c.terminate-step.ensures (terminated-answers c.args.now c.args.code c.args.text (view c.args.session) c.in-Some.binding) (is_true c.is_err.ensures.value c.if-is_err.true))
-
-pub returns : goal.returns
-returns c = answer-as _ (terminate_refused c.args.text (view c.args.session) c.in-Some.binding) _ (within (world_of c.args.session c.args.link c.args.queue) c.args.link.binding (terminate c.args.now c.args.code c.args.text (view c.args.session)) c.args.text) c.args.session c.args.link c.args.queue (of-good c.args.session c.args.link c.args.queue (is_true c.is_good.ensures c.if-not-is_good.false) _ _ ∙ if-bound _ c.in-Some.binding _ c.in-Some.is ∙ ap (λ (t : Bool). unless t refusal.OutputFull (terminate_refused c.args.text (view c.args.session) c.in-Some.binding)) (is_true c.has_room.ensures c.if-not-has_room.false)) (local-done (terminate_refused c.args.text (view c.args.session) c.in-Some.binding) _ c.terminate-step.result c.in-Some.binding (terminate c.args.now c.args.code c.args.text (view c.args.session) c.in-Some.binding) c.args.text (within (world_of c.args.session c.args.link c.args.queue) c.args.link.binding (terminate c.args.now c.args.code c.args.text (view c.args.session)) c.args.text) c.args.session c.args.link c.args.queue c.terminate-step.ensures (is_false c.is_err.ensures.value c.if-is_err.false) c.answered.ensures (within-bound _ _ _ (terminate c.args.now c.args.code c.args.text (view c.args.session)) _ c.in-Some.is))
+pub returns-in-Err-answer : goal.returns-in-Err-answer
+returns-in-Err-answer c = answer-kept _ _ c.in-Ok.ensures.ready _ _ _ _ (c.in-Ok.ensures.is _) (terminated-answers c.args.now c.args.code c.args.text (view c.args.session) _) c.in-Err-answer.is c.answered-in-Err-answer.ensures c.terminate-step.ensures

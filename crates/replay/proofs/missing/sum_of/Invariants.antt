@@ -8,7 +8,7 @@ use Rattle.rings.specs.declared.ring.Ring.{Ring}
 use Rattle.replay.specs.Missing.{gap_lengths, at_most}
 use Rattle.replay.proofs.missing.sum_of.Given as goal
 
-pub record Left (ring left : Ring max_gaps) (sum : ℕ) : Type 0 where
+pub record Left {room : ℕ} (ring left : Ring room) (sum : ℕ) : Type 0 where
   pub order : RingWf left
   pub fits : sum ≤ all_ones
   pub same : at_most (sum + gap_lengths (list_of left)) ≡ at_most (gap_lengths (list_of ring))

@@ -1,0 +1,9 @@
+-- Place by place.
+use Rattle.std.proofs.Common.{rules}
+use Rattle.rings.proofs.Laws.{long_of}
+use Rattle.library.specs.Outputs.{output_in}
+use Rattle.library.proofs.Copying.{mapped}
+use Rattle.library.proofs.outputs.OutputsFromQueue.from.Goals as goal
+
+pub returns : goal.returns
+returns c = rw (mapped output_in c.map.ensures.items (search (rules, long_of)) (λ p q x y h. search rules))

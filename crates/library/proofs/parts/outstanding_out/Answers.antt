@@ -1,9 +1,0 @@
--- By whether it is there.
-use borrow.Author.Rules.{rules}
-use Rattle.library.proofs.parts.outstanding_out.Goals as goal
-
-pub returns-in-Some : goal.returns-in-Some
-returns-in-Some c = rw c.in-Some.is
-
-pub returns-in-None : goal.returns-in-None
-returns-in-None c = rw c.in-None.is
