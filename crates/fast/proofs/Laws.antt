@@ -1,4 +1,4 @@
--- Each rule of the rule book where the ordinary case's tests hold.
+-- Each rule of the rule book where the ordinary case's tests hold. The function that makes these tests names its rule, and the check does the rest.
 use Rattle.std.specs.Prelude.{if◌then◌else◌, Option, Some, None}
 use Rattle.std.specs.Option.{is_some, option_eq}
 use Rattle.fast.specs.Quick.{Live, Same, Sent, Idle, Header, Lost, Recovered, Asked}
@@ -110,6 +110,7 @@ idle_rule true d now s b e i k =
     let g = neither-due (heartbeat_deadline b) (stall_deadline s) now f.1 in
     ap (λ (u : BindState). timeout_in u now stamp reason s b) x ∙ rw (f.0, g.1, g.0)
 
+-- no timer runs
 pub idle_never : (now : Instant) (s : Sess) (b : Binding) → is_established b.state ≡ true → next_deadline s b ≡ None → Idle true now s b
 idle_never now s b e i = idle_rule true None now s b e i refl
 
@@ -125,6 +126,7 @@ lost_rule stamp n expected s b e start f p z out t k none i h l =
     λ now reason text. rw (established-is b.state e, recoverable-is s.remote_flow f, ne_eqb n.0 0 (λ y. omega (arith, y, h)), none-of s.peer_finished z, none-of s.replay p, start, i, le-ltb n.0 expected.0 (omega (arith, h)), ne_eqb n.0 expected.0 (λ y. omega (arith, y, h)), le-ltb s.config.max_gap_len (n.0 - expected.0) l, nil-if s.gaps.missing none, lt-leb s.config.max_pending_gaps 0 (omega (arith, k)), none-of s.outstanding out, lt-leb n.0 expected.0 h, ne_eqb stamp.0 all_ones t)
 
 -- ---- all is recovered
+-- the list of a sound record has a front to look at
 pub sound_missing : (g : Gaps) → sound_gaps g ≡ true → RingWf g.missing
 sound_missing g e = (sound-wf g e).missing
 
@@ -145,7 +147,7 @@ asked_rule true m s b e f i v z l from until t =
     λ now stamp reason text. rw (established-is b.state e, f, i, none-of s.provider v, ne_eqb m.count 0 z, le-ltb s.config.max_retransmit_count m.count l, le-leb 1 m.from_seq_no.0 (omega (arith, from)), le-leb (m.from_seq_no.0 + m.count) s.outbound_next.0 (omega (arith, until, leb-true m.count (s.outbound_next.0 - m.from_seq_no.0) (sym t))))
 asked_rule false m s b e f i v z l from until t = tt
 
--- ---- a batch
+-- ---- a batch: nothing refuses it, and it is the rule's
 pub batch_passes : (count : ℕ) (v : Provider) (s : Sess) (b : Binding) → is_established b.state ≡ true → s.provider ≡ Some v → v.sent + count ≤ v.count → v.sent ≤ all_ones - v.from.0 → v.from.0 ≤ all_ones → retransmit_refused count s b ≡ passes
 unfolding retransmit_refused
 batch_passes count v s b e p x y fits = rw (e, p, le-leb v.sent v.count (omega (arith, x)), le-leb count (v.count - v.sent) (omega (arith, x)), le-leb (v.from.0 + v.sent) all_ones (omega (arith, y, fits)))
