@@ -1,11 +1,10 @@
 -- Outcomes that a contract admits together are equal (01, "How much a contract has to say"): two records that stand for the same
 -- lists are answered alike, wherever in their rings the lists stand.
-use Rattle.std.specs.Prelude.{Ok, Err}
+use Rattle.std.specs.Prelude.{Option, Some, None, Result, Ok, Err}
 use mathlib.Core.Path.{◌≡◌, refl, ap, sym, ◌∙◌}
 use mathlib.Core.Bool.{Bool, true, false}
 use mathlib.Core.List.{List, [], ◌∷◌}
-use Rattle.rules.specs.Names.{Link, Refusal, Output, Answer}
-use Rattle.rules.specs.Names.verdict
+use Rattle.rules.specs.Names.{Link, Refusal, Output}
 use Rattle.rules.specs.Names.refusal
 use Rattle.rules.specs.State.{Queue}
 use Rattle.rules.specs.Local.{Refused, passes, refuses}
@@ -13,11 +12,9 @@ use Rattle.rules.specs.Calls.{World, Call, wrong, does, Ran, ran_if, call, readi
 use Rattle.queue.specs.View.{queue_of}
 use Rattle.queue.specs.declared.Outputs.{Outputs}
 use Rattle.session.specs.declared.Session.{Session}
-use Rattle.calls.specs.View.{world_of, good_record, view_called, Done, AnsweredBy, Answered, of_good}
-use Rattle.reading.specs.Reading.{no_output, PolledOf, PolledBy, ClosedBy}
+use Rattle.calls.specs.View.{world_of, good_record, view_called, Done, AnsweredBy, Answered, of_good, if_good}
+use Rattle.reading.specs.Reading.{PolledOf, PolledBy, ClosedBy}
 use Rattle.calls.specs.declared.Called.{Called}
-use Rattle.reading.specs.declared.PollAnswer.{PollAnswer}
-use Rattle.reading.specs.declared.PollAnswer.TheVariants as poll
 use Rattle.reading.specs.declared.Polled.{Polled}
 use Rattle.reading.specs.declared.Closed.{Closed}
 use Rattle.calls.proofs.Laws.{good-sound}
@@ -58,10 +55,7 @@ pub refused-is-one-record : (c : Call) (x : Refusal) (r r' : Called) (s : Sessio
 refused-is-one-record c x r r' s l q e a b = go _ e a b
   where
     go : (f : Refused) → f ≡ refuses x → AnsweredBy f r (does c (world_of s l q)) s l q → AnsweredBy f r' (does c (world_of s l q)) s l q → r ≡ r'
-    go passes e a b = absurd (passed e)
-      where
-        passed : passes ≡ refuses x → ⊥
-        passed e = let z : ◌≡◌ {A = Bool} true false = cc in mathlib.Core.Bool.true≢false z
+    go passes e a b = cc
     go (refuses y) e a b =
         λ i.
         record {
@@ -83,19 +77,18 @@ same-lists-queried-alike f v r r' s s' l l' q q' g w a b = a ∙ (λ i. f (g i) 
 -- what a poll leaves and gives, with the queue as a list
 pub record Poll : Type 0 where
   pub queue : Queue
-  pub output : Output
-  pub answer : PollAnswer
+  pub output : Result (Option Output) Refusal
 
 abbrev pub view_polled : Polled → Poll
-view_polled r = record { queue = queue_of r.queue; output = r.output; answer = r.answer }
+view_polled r = record { queue = queue_of r.queue; output = r.output }
 
 abbrev poll_of : List Output → Queue → Poll
-poll_of [] q = record { queue = q; output = no_output; answer = poll.Empty }
-poll_of (o ∷ l) q = record { queue = polled q; output = o; answer = poll.Output }
+poll_of [] q = record { queue = q; output = Ok None }
+poll_of (o ∷ l) q = record { queue = polled q; output = Ok (Some o) }
 
 abbrev poll_by : Bool → Queue → Poll
 poll_by true q = poll_of q.outs q
-poll_by false q = record { queue = q; output = no_output; answer = poll.Refused refusal.BadRecord }
+poll_by false q = record { queue = q; output = Err refusal.BadRecord }
 
 polled-is : (good : Bool) (r : Polled) (q : Outputs) → PolledBy good r q → view_polled r ≡ poll_by good (queue_of q)
 polled-is false r q a = ap view_polled a
@@ -103,7 +96,7 @@ polled-is true r q a = go (queue_of q).outs a
   where
     go : (l : List Output) → PolledOf l r q → view_polled r ≡ poll_of l (queue_of q)
     go [] a = ap view_polled a
-    go (o ∷ l) a = λ i. record { queue = a.queue.is i; output = a.output i; answer = a.answer i }
+    go (o ∷ l) a = λ i. record { queue = a.queue.is i; output = a.output i }
 
 pub same-lists-polled-alike : (r r' : Polled) (s s' : Session) (l l' : Link) (q q' : Outputs) → good_record s l q ≡ good_record s' l' q' → queue_of q ≡ queue_of q' → PolledBy (good_record s l q) r q → PolledBy (good_record s' l' q') r' q' → view_polled r ≡ view_polled r'
 same-lists-polled-alike r r' s s' l l' q q' g w a b =
@@ -114,11 +107,7 @@ abbrev closed_by : Bool → Queue → Queue
 closed_by true q = transport_closed q
 closed_by false q = q
 
-abbrev closed_answer : Bool → Answer
-closed_answer true = Ok verdict.Done
-closed_answer false = Err refusal.BadRecord
-
-closed_is : (good : Bool) (r : Closed) (q : Outputs) → ClosedBy good r q → (queue_of r.queue ≡ closed_by good (queue_of q)) × (r.answer ≡ closed_answer good)
+closed_is : (good : Bool) (r : Closed) (q : Outputs) → ClosedBy good r q → (queue_of r.queue ≡ closed_by good (queue_of q)) × (r.answer ≡ if_good good tt)
 closed_is true r q a = (a.queue.is, a.answer)
 closed_is false r q a = (ap (λ (x : Closed). queue_of x.queue) a, ap (λ (x : Closed). x.answer) a)
 
@@ -126,4 +115,4 @@ pub same-lists-closed-alike : (r r' : Closed) (s s' : Session) (l l' : Link) (q 
 same-lists-closed-alike r r' s s' l l' q q' g w a b =
     let x = closed_is (good_record s l q) r q a in
     let y = closed_is (good_record s' l' q') r' q' b in
-    (x.0 ∙ (λ i. closed_by (g i) (w i)) ∙ sym y.0, x.1 ∙ (λ i. closed_answer (g i)) ∙ sym y.1)
+    (x.0 ∙ (λ i. closed_by (g i) (w i)) ∙ sym y.0, x.1 ∙ (λ i. if_good (g i) tt) ∙ sym y.1)

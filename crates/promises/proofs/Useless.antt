@@ -38,7 +38,8 @@ use Rattle.queue.specs.View.{outs_of}
 use Rattle.queue.specs.declared.Outputs.{Outputs}
 use Rattle.queue.proofs.Laws.{and_left, and_right}
 use Rattle.session.specs.declared.Session.{Session}
-use Rattle.calls.specs.View.{world_of, good_record, view_called, Done, Answered, is_refused, opened_as}
+use Rattle.calls.specs.View.{world_of, good_record, view_called, Done, Answered, opened_as}
+use Rattle.types.specs.Answers.{is_refused}
 use Rattle.calls.specs.declared.Called.{Called}
 use Rattle.promises.proofs.Alike.{outcome, answered-is}
 
@@ -120,11 +121,11 @@ met p m c s l q = answered-is c (p c s l q) s l q (m c s l q)
 -- the message numbered n leaves one that expects n + 1, and nothing else
 module _ (p : Port) (m : Meets p) where
   numbers-one : view_called (p arrives (expecting 1) bound empty) ≡ record { world = world_of (expecting 2) bound empty; answer = accept_live (Some (num 1)) }
-  unfolding sound config_fits list_of list_of ring_list outs_of no_text on_application on_live number_live queued
+  unfolding sound config_fits list_of ring_list outs_of no_text on_application on_live number_live queued
   numbers-one = met p m arrives (expecting 1) bound empty ∙ ap (λ (t : Bool). outcome t arrives (world_of (expecting 1) bound empty)) (small-good None 1)
 
   numbers-two : (p arrives (expecting 2) bound empty).answer ≡ accept_live (Some (num 2))
-  unfolding sound config_fits list_of list_of ring_list outs_of no_text on_application on_live number_live queued
+  unfolding sound config_fits list_of ring_list outs_of no_text on_application on_live number_live queued
   numbers-two = ap (λ (r : Ran). r.answer) (met p m arrives (expecting 2) bound empty ∙ ap (λ (t : Bool). outcome t arrives (world_of (expecting 2) bound empty)) (small-good None 2))
 
 -- ---- what a done call leaves is a good record again, if its lists and reasons are within their room
@@ -170,17 +171,10 @@ sample rejects = reject_call rejection.OutOfRange no_text
 sample ends = end_call
 sample waits = timeout_call at seven
 
+-- a bind is made unbound, and any other call bound
 abbrev link_for : Kind → Link
 link_for binds = unlinked
-link_for releases = bound
-link_for hears = bound
-link_for receives = bound
-link_for sends = bound
-link_for terminates = bound
-link_for retransmits = bound
-link_for rejects = bound
-link_for ends = bound
-link_for waits = bound
+link_for _ = bound
 
 abbrev one : Session
 one = serving (Some (record { request_timestamp = seven; from = num 1; count = 1; sent = 0 })) 1
@@ -199,7 +193,7 @@ one-good ends = refl
 one-good waits = refl
 
 not-refused : (k : Kind) → is_refused (outcome true (sample k) (world_of one (link_for k) empty)).answer ≡ false
-unfolding sound config_fits list_of list_of ring_list outs_of no_text queued saying answering and_then bind on_established resume request_missing maybe_finish_receiving release_binding_state on_peer on_application on_live number_live send_refused send_application terminate_refused terminate retransmit_refused retransmit batch reject_refused reject_retransmit_request end_refused end_retransmission on_timeout established_timeout stall_if_due heartbeat_if_due heartbeat silence_deadline stall_deadline heartbeat_deadline deadline_at
+unfolding sound config_fits list_of ring_list outs_of no_text queued saying answering and_then bind on_established resume request_missing maybe_finish_receiving release_binding_state on_peer on_application on_live number_live send_refused send_application terminate_refused terminate retransmit_refused retransmit batch reject_refused reject_retransmit_request end_refused end_retransmission on_timeout established_timeout stall_if_due heartbeat_if_due heartbeat silence_deadline stall_deadline heartbeat_deadline deadline_at
 not-refused binds = refl
 not-refused releases = refl
 not-refused hears = refl
@@ -290,7 +284,7 @@ module _ (p : Port) (m : Meets p) where
 
   -- the record that the first message left is good, and expects 2
   second : (again p arrives (p arrives (expecting 1) bound empty)).answer ≡ accept_live (Some (num 2))
-  unfolding sound config_fits list_of list_of ring_list outs_of no_text on_application on_live number_live queued
+  unfolding sound config_fits list_of ring_list outs_of no_text on_application on_live number_live queued
   second =
       let r = p arrives (expecting 1) bound empty in
       let n = numbers-one p m in
