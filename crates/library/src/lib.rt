@@ -1,9 +1,9 @@
 //! The calls for C and Rust: records as plain numbers, by value in and out.
 #![tactic(auto)]
 
-ghost use Rattle.std.specs.Prelude.{◌≡◌};
-ghost use Rattle.calls.specs.View.{Answered};
-ghost use Rattle.library.specs.Exported.{is_clean, is_opening, refused_out, CallIs, OpenOut, deadline_reply, ClosedIs};
+ghost use Rattle.std.specs.Prelude.{◌≡◌, ◌&&◌, true, false, MatchOption, MatchResult};
+ghost use Rattle.calls.specs.View.{Answered, good_record};
+ghost use Rattle.library.specs.Exported.{is_clean, is_good, held_in, is_opening, refused_out, CallIs, OpenOut, deadline_reply, ClosedIs};
 ghost use Rattle.library.specs.Records.{session_in, link_in, record_out, done_out, call_of, is_malformed};
 
 use crate::answers::numbered;
@@ -15,8 +15,9 @@ use queue::Outputs;
 use rings::gaps::Gaps;
 use session::Session;
 use trace::records::Entry;
-use types::answers::{Refusal, Verdict};
+use types::answers::Refusal;
 use types::binding::Link;
+use types::codes::Unlisted;
 use types::ids::{Instant, Nanotime, SeqNum};
 
 pub mod answers;
@@ -26,6 +27,14 @@ pub mod mirror;
 pub mod outputs;
 pub mod parts;
 pub mod requests;
+
+/// What a record stands for.
+#[derive(Clone, Copy)]
+struct Held {
+    session: Session,
+    link: Link,
+    queue: Outputs,
+}
 
 impl From<Record> for Session {
     ghost from_gives = { λ r s. s ≡ session_in r };
@@ -64,28 +73,31 @@ impl From<Record> for Link {
     }
 }
 
-fn record_out(s: Session, link: Link, queue: Outputs) -> Record
-    ensures { result ≡ record_out s link queue }
-{
-    Record {
-        id: s.id.into(),
-        local_flow: u8::from(s.local_flow),
-        remote_flow: u8::from(s.remote_flow),
-        start_pending: s.start_pending,
-        awaiting_resume: s.awaiting_resume,
-        finalized: s.finalized,
-        config: s.config.into(),
-        outbound_next: s.outbound_next.0,
-        inbound_next: s.inbound_next.into(),
-        missing: s.gaps.missing.into(),
-        overflow: s.gaps.overflow_received.into(),
-        asked: s.outstanding.into(),
-        batch: s.replay.into(),
-        served: s.provider.into(),
-        finished: s.peer_finished.into(),
-        bond: link.binding.into(),
-        reason: link.reason.into(),
-        queue: queue.into(),
+impl From<Held> for Record {
+    ghost from_gives = { λ h r. r ≡ record_out h.session h.link h.queue };
+
+    fn from(held: Held) -> Record {
+        let s = held.session;
+        Record {
+            id: s.id.into(),
+            local_flow: u8::from(s.local_flow),
+            remote_flow: u8::from(s.remote_flow),
+            start_pending: s.start_pending,
+            awaiting_resume: s.awaiting_resume,
+            finalized: s.finalized,
+            config: s.config.into(),
+            outbound_next: s.outbound_next.0,
+            inbound_next: s.inbound_next.into(),
+            missing: s.gaps.missing.into(),
+            overflow: s.gaps.overflow_received.into(),
+            asked: s.outstanding.into(),
+            batch: s.replay.into(),
+            served: s.provider.into(),
+            finished: s.peer_finished.into(),
+            bond: held.link.binding.into(),
+            reason: held.link.reason.into(),
+            queue: held.queue.into(),
+        }
     }
 }
 
@@ -93,8 +105,13 @@ impl From<Called> for Done {
     ghost from_gives = { λ c d. d ≡ done_out c };
 
     fn from(called: Called) -> Done {
+        let held = Held {
+            session: called.session,
+            link: called.link,
+            queue: called.queue,
+        };
         Done {
-            record: record_out(called.session, called.link, called.queue),
+            record: held.into(),
             reply: called.answer.into(),
         }
     }
@@ -121,24 +138,58 @@ fn is_clean(r: Record) -> bool
         && all_said(r.queue)
 }
 
-/// The call of an entry, with what the request says beside it.
-fn run(session: Session, link: Link, mut queue: Outputs, entry: Entry, request: Request) -> Called
-    ensures { Answered (call_of entry request) result session link queue }
-{
-    let handed = dispatch::run(
-        &mut queue,
-        session,
-        link,
-        entry,
-        Instant(request.now),
-        Nanotime(request.stamp),
-        request.reason.into(),
-    );
-    Called {
-        session: handed.session,
-        link: handed.link,
-        queue,
-        answer: handed.answer,
+impl TryFrom<Record> for Held {
+    type Error = Unlisted;
+
+    /// A number outside its list is an error.
+    fn try_from(plain: Record) -> Result<Held, Unlisted>
+        ensures { MatchResult result (λ h. (h ≡ held_in plain) × (is_clean plain ≡ true)) (λ _. is_clean plain ≡ false) }
+    {
+        if !is_clean(plain) {
+            return Err(Unlisted);
+        }
+        Ok(Held {
+            session: plain.into(),
+            link: plain.into(),
+            queue: plain.queue.into(),
+        })
+    }
+}
+
+impl Held {
+    /// Of a clean record with each position, count and length within its room.
+    fn good(plain: Record) -> Option<Held>
+        ensures { MatchOption result ((is_clean plain && is_good plain) ≡ false) (λ h. (h ≡ held_in plain) × ((is_clean plain && is_good plain) ≡ true)) }
+    {
+        let held = Held::try_from(plain).ok()?;
+        held.is_good().then_some(held)
+    }
+
+    fn is_good(self) -> bool
+        ensures { result ≡ good_record self.session self.link self.queue }
+    {
+        calls::is_good(self.session, self.link, self.queue)
+    }
+
+    /// The call of an entry, with what the request says beside it.
+    fn run(mut self, entry: Entry, request: Request) -> Called
+        ensures { Answered (call_of entry request) result self.session self.link self.queue }
+    {
+        let handed = dispatch::run(
+            &mut self.queue,
+            self.session,
+            self.link,
+            entry,
+            Instant(request.now),
+            Nanotime(request.stamp),
+            request.reason.into(),
+        );
+        Called {
+            session: handed.session,
+            link: handed.link,
+            queue: self.queue,
+            answer: handed.answer,
+        }
     }
 }
 
@@ -152,17 +203,14 @@ fn is_malformed(entry: Entry) -> bool
 pub fn fixp_call(record: Record, request: Request) -> Done
     ensures { CallIs «record» request result }
 {
-    if !is_clean(record) {
+    let Ok(held) = Held::try_from(record) else {
         return refused(record, Refusal::BadRecord);
-    }
-    let session = Session::from(record);
-    let link = Link::from(record);
-    let queue = Outputs::from(record.queue);
+    };
     let entry = Entry::from(request);
     if !is_malformed(entry) {
-        return run(session, link, queue, entry, request).into();
+        return held.run(entry, request).into();
     }
-    if !calls::is_good(session, link, queue) {
+    if !held.is_good() {
         return refused(record, Refusal::BadRecord);
     }
     refused(record, Refusal::BadMessage)
@@ -196,37 +244,26 @@ fn is_open(o: Opening) -> bool
 pub fn fixp_next_deadline(record: Record) -> Reply
     ensures { result ≡ deadline_reply «record» }
 {
-    if !is_clean(record) {
+    let Some(held) = Held::good(record) else {
         return Refusal::BadRecord.into();
-    }
-    let session = Session::from(record);
-    let link = Link::from(record);
-    if !calls::is_good(session, link, record.queue.into()) {
-        return Refusal::BadRecord.into();
-    }
-    let Some(binding) = link.binding else {
-        return numbered(1, Number::default());
     };
-    numbered(1, session.next_deadline(binding).into())
+    let deadline = held
+        .link
+        .binding
+        .and_then(|binding| held.session.next_deadline(binding));
+    numbered(1, deadline.into())
 }
 
 /// The host reports the transport closed: 1.
 pub fn fixp_transport_closed(record: Record) -> Done
     ensures { ClosedIs «record» result }
 {
-    if !is_clean(record) {
+    let Some(mut held) = Held::good(record) else {
         return refused(record, Refusal::BadRecord);
+    };
+    held.queue = held.queue.transport_closed();
+    Done {
+        record: held.into(),
+        reply: numbered(1, Number::default()),
     }
-    let session = Session::from(record);
-    let link = Link::from(record);
-    let queue = Outputs::from(record.queue);
-    if !calls::is_good(session, link, queue) {
-        return refused(record, Refusal::BadRecord);
-    }
-    Done::from(Called {
-        session,
-        link,
-        queue: queue.transport_closed(),
-        answer: Ok(Verdict::Done),
-    })
 }

@@ -1,4 +1,5 @@
 //! The records as plain numbers, for callers in C or Rust: no enum crosses the border, a number of 01 or of `codes` stands for it.
+// Flags beside values, kinds as numbers, lengths and places beside arrays, one struct a room: the C interface.
 use queue::MAX_OUTPUTS;
 use rings::gaps::{MAX_GAPS, MAX_RUNS};
 use types::reasons::MAX_REASON_LEN;

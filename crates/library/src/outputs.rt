@@ -105,7 +105,8 @@ fn is_said(o: Out) -> bool
         38 => listed(o.code, 4),
         101 | 113 => is_name(o.code),
         109 => listed(o.by, 2) && listed(o.code, 4),
-        kind => matches!(kind, 1 | 32 | 34..=36 | 40 | 42 | 102..=104 | 106..=108 | 110..=112),
+        1 | 32 | 34..=36 | 40 | 42 | 102..=104 | 106..=108 | 110..=112 => true,
+        _ => false,
     }
 }
 
