@@ -1,6 +1,5 @@
 //! An answer as numbers, by 01's own (`rules/specs/Answers`).
-ghost use Rattle.std.specs.Prelude.{◌≡◌, Ok};
-ghost use Rattle.rules.specs.Names.verdict;
+ghost use Rattle.std.specs.Prelude.{◌≡◌};
 ghost use Rattle.rules.specs.Answers.{refusal_values};
 ghost use Rattle.library.specs.Answers.{first_of, second_of, numbered_reply, refusal_out, answer_out};
 
@@ -51,24 +50,16 @@ impl From<Refusal> for Reply {
     }
 }
 
-fn delivery_out(delivery: Delivery) -> Reply
-    ensures { result ≡ answer_out (Ok (verdict.Delivered delivery)) }
-{
-    match delivery {
-        Delivery::Accept { seq, retransmitted } => {
-            numbered(if retransmitted { 3 } else { 2 }, seq.into())
-        }
-        Delivery::Discard => numbered(4, Number::default()),
-    }
-}
-
 impl From<Result<Verdict, Refusal>> for Reply {
     ghost from_gives = { λ a r. r ≡ answer_out a };
 
     fn from(answer: Result<Verdict, Refusal>) -> Reply {
         match answer {
             Ok(Verdict::Done) => numbered(1, Number::default()),
-            Ok(Verdict::Delivered(delivery)) => delivery_out(delivery),
+            Ok(Verdict::Delivered(Delivery::Accept { seq, retransmitted })) => {
+                numbered(if retransmitted { 3 } else { 2 }, seq.into())
+            }
+            Ok(Verdict::Delivered(Delivery::Discard)) => numbered(4, Number::default()),
             Ok(Verdict::Sent(seq)) => numbered(5, seq.into()),
             Ok(Verdict::Batch(batch)) => Reply {
                 first: u64::from(batch.count),

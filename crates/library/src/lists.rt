@@ -31,6 +31,7 @@ impl From<Gap> for Range {
     }
 }
 
+// Twice the same, for two structs of the C interface. One function over any room: tried, and the array's `map` asks that the array fit in memory.
 impl From<Missing> for Ring<MAX_GAPS> {
     ghost from_gives = { λ m r. r ≡ missing_in m };
 
