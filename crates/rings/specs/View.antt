@@ -2,13 +2,10 @@
 use Rattle.std.specs.Prelude.{ℕ, ◌<◌, ◌≤◌, ◌≡◌, List, Bool, ◌&&◌, ltb, leb}
 use Rattle.rules.specs.Names.{Gap}
 use Rattle.rules.specs.State.{Lists}
-use Rattle.rules.specs.Gaps.{lists, kept}
-use Rattle.rules.specs.Gaps.{Kept as KeptRule, Seen as SeenRule}
+use Rattle.rules.specs.Gaps.{lists, kept, Kept, Seen}
 use Rattle.rings.specs.Ring.{ring_list}
 use Rattle.rings.specs.declared.ring.Ring.{Ring}
 use Rattle.rings.specs.declared.gaps.Gaps.{Gaps}
-use Rattle.rings.specs.declared.gaps.Kept.{Kept}
-use Rattle.rings.specs.declared.gaps.Seen.{Seen}
 
 -- what a slot out of the room would hold: no ring reads one
 abbrev pub no_gap : Gap
@@ -21,11 +18,12 @@ list_of {room = room} r = ring_list room no_gap r.slots r.head r.count
 abbrev pub lists_of : Gaps → Lists
 lists_of g = lists (list_of g.missing) (list_of g.overflow_received)
 
-abbrev pub view_kept : Kept → KeptRule
-view_kept r = kept (lists_of r.gaps) r.ok
+-- with whether a gap was kept, or a number received already
+abbrev pub view_kept : Gaps → Bool → Kept
+view_kept g ok = kept (lists_of g) ok
 
-abbrev pub view_seen : Seen → SeenRule
-view_seen r = record { gaps = lists_of r.gaps; duplicate = r.duplicate }
+abbrev pub view_seen : Gaps → Bool → Seen
+view_seen g duplicate = record { gaps = lists_of g; duplicate = duplicate }
 
 -- ---- well formed: position and count within the room
 pub record RingWf {room : ℕ} (r : Ring room) : Type 0 where
@@ -52,10 +50,10 @@ pub record GapsIs (r : Gaps) (l : Lists) : Type 0 where
   pub wf : GapsWf r
   pub is : lists_of r ≡ l
 
-pub record KeptIs (r : Kept) (m : KeptRule) : Type 0 where
-  pub wf : GapsWf r.gaps
-  pub is : view_kept r ≡ m
+pub record KeptIs (g : Gaps) (ok : Bool) (m : Kept) : Type 0 where
+  pub wf : GapsWf g
+  pub is : view_kept g ok ≡ m
 
-pub record SeenIs (r : Seen) (m : SeenRule) : Type 0 where
-  pub wf : GapsWf r.gaps
-  pub is : view_seen r ≡ m
+pub record SeenIs (g : Gaps) (duplicate : Bool) (m : Seen) : Type 0 where
+  pub wf : GapsWf g
+  pub is : view_seen g duplicate ≡ m

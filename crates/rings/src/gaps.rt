@@ -22,20 +22,6 @@ pub struct Gaps {
     pub overflow_received: Ring<MAX_RUNS>,
 }
 
-/// The lists, and whether the gap was kept.
-#[derive(Clone, Copy)]
-pub struct Kept {
-    pub gaps: Gaps,
-    pub ok: bool,
-}
-
-/// The lists, and whether the number was received already.
-#[derive(Clone, Copy)]
-pub struct Seen {
-    pub gaps: Gaps,
-    pub duplicate: bool,
-}
-
 /// The later of two numbers.
 #[tactic(auto, unfolding(rules::specs::Gaps::later_of))]
 fn later(a: SeqNum, b: SeqNum) -> SeqNum
@@ -57,61 +43,54 @@ impl Gaps {
 
     /// Whether each list's position and count are within its room (01, refusal 1).
     #[tactic(auto, unfolding(crate::specs::View::sound_gaps))]
-    pub fn sound(self) -> bool
-        ensures { result ≡ sound_gaps self }
+    pub fn sound(&self) -> bool
+        ensures { result ≡ sound_gaps self.now }
     {
         self.missing.sound() && self.overflow_received.sound()
     }
 
     /// The first gap, which is the next to be asked for.
-    pub fn front(self) -> Option<Gap>
-        requires { GapsWf self }
-        ensures { result ≡ front_of (lists_of self).missing }
+    pub fn front(&self) -> Option<Gap>
+        requires { GapsWf self.now }
+        ensures { result ≡ front_of (lists_of self.now).missing }
     {
         self.missing.front()
     }
 
     /// Whether nothing is missing.
-    pub fn is_empty(self) -> bool
-        ensures { result ≡ is_nil (lists_of self).missing }
+    pub fn is_empty(&self) -> bool
+        ensures { result ≡ is_nil (lists_of self.now).missing }
     {
         self.missing.len() == 0
     }
 
     /// One more gap: of a list that has room.
-    fn push_gap(mut self, from: SeqNum, end: SeqNum) -> Gaps
-        requires gaps_wf { GapsWf self }
-        requires self_len_bound { length (lists_of self).missing < max_gaps }
-        ensures { GapsIs result (appended from end (lists_of self)) }
+    fn push_gap(&mut self, from: SeqNum, end: SeqNum)
+        requires in_order { GapsWf self.old }
+        requires room { length (lists_of self.old).missing < max_gaps }
+        ensures { GapsIs self.new (appended from end (lists_of self.old)) }
     {
         self.missing.push_back(Gap { from, end });
-        self
     }
 
     /// "Else, below `max_pending_gaps`, it is appended."
-    fn append_gap(self, max: u16, from: SeqNum, end: SeqNum) -> Kept
-        requires gaps_wf { GapsWf self }
+    fn append_gap(&mut self, max: u16, from: SeqNum, end: SeqNum) -> bool
+        requires in_order { GapsWf self.old }
         requires max_bound { max ≤ 64 }
-        ensures { KeptIs result (append_gap max from end (lists_of self)) }
+        ensures { KeptIs self.new result (append_gap max from end (lists_of self.old)) }
     {
         if self.missing.len() >= max as usize {
-            return Kept {
-                gaps: self,
-                ok: false,
-            };
+            return false;
         }
-        let longer = self.push_gap(from, end);
-        Kept {
-            gaps: longer,
-            ok: true,
-        }
+        self.push_gap(from, end);
+        true
     }
 
-    /// "A gap touching the last one extends it." Else it is appended, or refused at `max`.
-    pub fn record_gap(mut self, max: u16, from: SeqNum, end: SeqNum) -> Kept
-        requires gaps_wf { GapsWf self }
+    /// "A gap touching the last one extends it." Else it is appended, or refused at `max`. Whether it is kept.
+    pub fn record_gap(&mut self, max: u16, from: SeqNum, end: SeqNum) -> bool
+        requires in_order { GapsWf self.old }
         requires max_bound { max ≤ 64 }
-        ensures { KeptIs result (record_gap max from end (lists_of self)) }
+        ensures { KeptIs self.new result (record_gap max from end (lists_of self.old)) }
     {
         let Some(last) = self.missing.back() else {
             return self.append_gap(max, from, end);
@@ -119,116 +98,88 @@ impl Gaps {
         if last.end.0 != from.0 {
             return self.append_gap(max, from, end);
         }
-        let begin = last.from;
-        self.missing.set_back(Gap { from: begin, end });
-        Kept {
-            gaps: self,
-            ok: true,
-        }
+        self.missing.set_back(Gap {
+            from: last.from,
+            end,
+        });
+        true
     }
 
     /// The last gap, which is `last`, reaches `end` at least.
-    fn widen_last(mut self, last: Gap, end: SeqNum) -> Gaps
-        requires gaps_wf { GapsWf self }
-        requires missing_nonzero { 0 < length (lists_of self).missing }
-        ensures { GapsIs result (widen last end (lists_of self)) }
+    fn widen_last(&mut self, last: Gap, end: SeqNum)
+        requires in_order { GapsWf self.old }
+        requires nonzero { 0 < length (lists_of self.old).missing }
+        ensures { GapsIs self.new (widen last end (lists_of self.old)) }
     {
-        let begin = last.from;
-        let until = later(last.end, end);
         self.missing.set_back(Gap {
-            from: begin,
-            end: until,
+            from: last.from,
+            end: later(last.end, end),
         });
-        self
     }
 
     /// A gap that `record_gap` refused is held: as one more, or joined to that one, "with the numbers received between kept as
-    /// an overflow run". "A 257th run is refused."
-    pub fn hold_refused_gap(mut self, max: u16, from: SeqNum, end: SeqNum) -> Kept
-        requires gaps_wf { GapsWf self }
+    /// an overflow run". "A 257th run is refused." Whether it is held.
+    pub fn hold_refused_gap(&mut self, max: u16, from: SeqNum, end: SeqNum) -> bool
+        requires in_order { GapsWf self.old }
         requires max_bound { max ≤ 64 }
-        ensures { KeptIs result (hold_refused_gap max from end (lists_of self)) }
+        ensures { KeptIs self.new result (hold_refused_gap max from end (lists_of self.old)) }
     {
         if self.missing.len() <= max as usize {
-            let longer = self.push_gap(from, end);
-            return Kept {
-                gaps: longer,
-                ok: true,
-            };
+            self.push_gap(from, end);
+            return true;
         }
         let Some(last) = self.missing.back() else {
-            let longer = self.push_gap(from, end);
-            return Kept {
-                gaps: longer,
-                ok: true,
-            };
+            self.push_gap(from, end);
+            return true;
         };
         if last.end.0 >= from.0 {
-            let wider = self.widen_last(last, end);
-            return Kept {
-                gaps: wider,
-                ok: true,
-            };
+            self.widen_last(last, end);
+            return true;
         }
         if self.overflow_received.len() >= MAX_RUNS {
-            return Kept {
-                gaps: self,
-                ok: false,
-            };
+            return false;
         }
-        let begin = last.end;
         self.overflow_received.push_back(Gap {
-            from: begin,
+            from: last.end,
             end: from,
         });
-        let wider = self.widen_last(last, end);
-        Kept {
-            gaps: wider,
-            ok: true,
-        }
+        self.widen_last(last, end);
+        true
     }
 
     /// Whether `seq`, which is retransmitted, was received live. The runs wholly below it are dropped as it passes them.
-    pub fn received_in_overflow(mut self, seq: SeqNum) -> Seen
-        requires { GapsWf self }
-        ensures { SeenIs result (received_in_overflow seq (lists_of self)) }
+    pub fn received_in_overflow(&mut self, seq: SeqNum) -> bool
+        requires { GapsWf self.old }
+        ensures { SeenIs self.new result (received_in_overflow seq (lists_of self.old)) }
     {
         self.overflow_received.drop_below(seq);
         let Some(run) = self.overflow_received.front() else {
-            return Seen {
-                gaps: self,
-                duplicate: false,
-            };
+            return false;
         };
-        Seen {
-            gaps: self,
-            duplicate: run.from.0 <= seq.0,
-        }
+        run.from.0 <= seq.0
     }
 
     /// The first gap goes, and with the last of them all runs.
-    fn drop_first(mut self) -> Gaps
-        requires { GapsWf self }
-        ensures { GapsIs result (drop_first (lists_of self)) }
+    fn drop_first(&mut self)
+        requires { GapsWf self.old }
+        ensures { GapsIs self.new (drop_first (lists_of self.old)) }
     {
         self.missing.pop_front();
         if self.missing.len() == 0 {
             self.overflow_received = Ring::new();
-            return self;
         }
-        self
     }
 
     /// The first `count` numbers of the first gap are recovered or abandoned: a count that reaches its end takes it whole.
-    pub fn consume_missing(mut self, count: u64) -> Gaps
-        requires { GapsWf self }
-        ensures { GapsIs result (consume_missing count (lists_of self)) }
+    pub fn consume_missing(&mut self, count: u64)
+        requires { GapsWf self.old }
+        ensures { GapsIs self.new (consume_missing count (lists_of self.old)) }
     {
         if count == 0 {
-            return self;
+            return;
         }
         let Some(first) = self.missing.front() else {
-            return self;
+            return;
         };
         // Where from + count passes 2^64-1 it passes the end too.
         if first.end.0 <= count {
@@ -238,11 +189,9 @@ impl Gaps {
             return self.drop_first();
         }
         let from = first.from.0 + count;
-        let end = first.end;
         self.missing.set_front(Gap {
             from: SeqNum(from),
-            end,
+            end: first.end,
         });
-        self
     }
 }

@@ -44,7 +44,6 @@ impl Session {
         requires from_lt_end { gap.from.0 < gap.end.0 }
         ensures { StepIs result (queue_of queue) (ask now stamp gap (view self) binding) }
     {
-        let mut leaving = binding;
         let count = at_most(gap.end.0 - gap.from.0, self.config.max_retransmit_count);
         let from = gap.from;
         let asked = queue.send(SessionMessage::RetransmitRequest(RetransmitRequest {
@@ -53,7 +52,7 @@ impl Session {
             from_seq_no: from,
             count,
         }));
-        leaving.in_sequence = false;
+        let leaving = binding.leave_sequence();
         self.outstanding = Some(Outstanding {
             timestamp: stamp,
             from,
@@ -111,7 +110,6 @@ impl Session {
         requires { Ready 1 self queue }
         ensures { StepIs result (queue_of queue) (maybe_finish_receiving (view self) binding) }
     {
-        let mut leaving = binding;
         let Some(finished) = self.peer_finished else {
             return self.stay(binding, queue);
         };
@@ -134,7 +132,7 @@ impl Session {
             receiving_sent: true,
             end: finished.end,
         });
-        leaving.in_sequence = false;
+        let leaving = binding.leave_sequence();
         self.stay(leaving, sent)
     }
 

@@ -183,7 +183,6 @@ impl Session {
         requires sent_bound { provider.from.0 + provider.sent ≤ all_ones }
         ensures { StepIs result (queue_of queue) (batch now count provider (view self) binding) }
     {
-        let mut leaving = binding;
         let from = SeqNum(provider.from.0 + provider.sent as u64);
         let sent = queue.send(SessionMessage::Retransmission(Retransmission {
             session_id: self.id,
@@ -193,6 +192,7 @@ impl Session {
         }));
         let it = provider_after(provider, count);
         self.provider = it;
+        let mut leaving = binding;
         leaving.in_sequence = false;
         leaving.last_keepalive = now;
         self.reply(
@@ -213,7 +213,6 @@ impl Session {
         requires { Ready 1 self queue }
         ensures { LocalIs result self binding queue (reject_refused text (view self) binding) (reject_retransmit_request code text (view self) binding) }
     {
-        let mut leaving = binding;
         if !binding.is_established() {
             return self.refuse_state(binding, queue, Operation::RejectRetransmitRequest);
         }
@@ -232,7 +231,7 @@ impl Session {
             text,
         );
         self.provider = None;
-        leaving.in_sequence = false;
+        let leaving = binding.leave_sequence();
         self.stay(leaving, sent)
     }
 

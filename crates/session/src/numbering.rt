@@ -4,7 +4,7 @@ ghost use Rattle.queue.specs.View.{queue_of, OutsWf};
 ghost use Rattle.types.specs.Base.{all_ones};
 ghost use Rattle.rules.specs.Names.flow;
 ghost use Rattle.rules.specs.State.{stays, with_inbound, with_replay, with_outstanding, answering};
-ghost use Rattle.rings.specs.View.{GapsWf, view_kept};
+ghost use Rattle.rings.specs.View.{view_kept};
 ghost use Rattle.rules.specs.Ending.{violation};
 ghost use Rattle.rules.specs.Numbering.{allocate_outbound, not_applied_numbered, send_not_applied, gap_held, gap_recorded, gap_reported, gap_on, on_gap, cut_off, past_finished, stop_replay, announced_to, announced, on_next_seq};
 ghost use Rattle.rules.specs.Numbering.{discard, replay_after, count_delivered, complete_if, replayed_counted, on_replayed, number_live, numbered_as, is_peer_finished, on_live, on_application};
@@ -12,7 +12,6 @@ ghost use Rattle.session.specs.View.{view, SessWf, SessIs, StepIs, CountedIs, In
 
 use crate::{Session, Step};
 use queue::Outputs;
-use rings::gaps::Kept;
 use types::answers::{Delivery, Verdict};
 use types::binding::Binding;
 use types::ids::{ALL_ONES, FlowType, Instant, Nanotime, SeqNum, TerminationCode};
@@ -145,10 +144,9 @@ impl Session {
         requires { Ready 3 self queue }
         ensures { StepIs result (queue_of queue) (replayed_counted now stamp seq (record { session = view self; complete = complete }) binding) }
     {
-        let seen = self.gaps.received_in_overflow(seq);
-        self.gaps = seen.gaps;
+        let duplicate = self.gaps.received_in_overflow(seq);
         let step = self.complete_if(complete, binding, queue, now, stamp);
-        if seen.duplicate {
+        if duplicate {
             return step.answered(Ok(Verdict::Delivered(Delivery::Discard)));
         }
         step.answered(Ok(Verdict::Delivered(Delivery::Accept {
@@ -394,26 +392,21 @@ impl Session {
         requires { Ready 4 self queue }
         ensures { StepIs result (queue_of queue) (gap_on flow.Recoverable now stamp from next (view self) binding) }
     {
-        let config = self.config;
-        let kept = self.gaps.record_gap(config.max_pending_gaps, from, next);
-        let lists = kept.gaps;
-        if kept.ok {
-            self.gaps = lists;
+        let max = self.config.max_pending_gaps;
+        if self.gaps.record_gap(max, from, next) {
             let moved = self.with_inbound(next);
             return moved.request_missing(binding, queue, now, stamp);
         }
-        let held = lists.hold_refused_gap(config.max_pending_gaps, from, next);
+        let held = self.gaps.hold_refused_gap(max, from, next);
         self.hold_gap(binding, queue, next, held)
     }
 
     /// Past the bound the gap is held, unless even its runs have no room, and the binding ends.
-    fn hold_gap(mut self, binding: Binding, queue: Outputs, next: SeqNum, held: Kept) -> Step
-        requires ready { Ready 4 self queue }
-        requires gaps_wf { GapsWf held.gaps }
-        ensures { StepIs result (queue_of queue) (gap_held next (view_kept held) (view self) binding) }
+    fn hold_gap(self, binding: Binding, queue: Outputs, next: SeqNum, held: bool) -> Step
+        requires { Ready 4 self queue }
+        ensures { StepIs result (queue_of queue) (gap_held next (view_kept self.gaps held) (view self) binding) }
     {
-        self.gaps = held.gaps;
-        if held.ok {
+        if held {
             let moved = self.with_inbound(next);
             return moved.violation(binding, queue, TOO_MANY_GAPS);
         }

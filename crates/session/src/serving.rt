@@ -134,7 +134,6 @@ impl Session {
         requires { Ready 2 self queue }
         ensures { StepIs result (queue_of queue) (refuse_retransmit message code reason (view self) binding) }
     {
-        let mut leaving = binding;
         let sent = queue.send_with(
             SessionMessage::RetransmitReject(RetransmitReject {
                 session_id: message.session_id,
@@ -143,7 +142,7 @@ impl Session {
             }),
             reason,
         );
-        leaving.in_sequence = false;
+        let leaving = binding.leave_sequence();
         let told = sent.event_with(Event::Refused(MessageName::RetransmitReject), reason);
         self.stay(leaving, told)
     }

@@ -6,4 +6,4 @@ use Rattle.session.proofs.Session.ask.Goals as goal
 
 pub returns : goal.returns
 unfolding ask saying
-returns c = rw (← c.at_most-count.ensures) (said _ _ _ _ _ c.send-asked.ensures.is c.stay.ensures)
+returns c = rw (← c.at_most-count.ensures, ← c.leave_sequence-leaving.ensures) (said _ _ _ _ _ c.send-asked.ensures.is c.stay.ensures)

@@ -3,10 +3,10 @@ use Rattle.rules.specs.Numbering.{replayed_counted}
 use Rattle.session.proofs.Laws.{answered-is}
 use Rattle.session.proofs.Session.deliver_replayed.Goals as goal
 
-pub returns-then-seen : goal.returns-then-seen
+pub returns-then-duplicate : goal.returns-then-duplicate
 unfolding replayed_counted
-returns-then-seen c = rw (← c.received_in_overflow-seen.ensures.is, c.if-seen.true) (answered-is _ _ _ _ _ c.answered.ensures c.complete_if-step.ensures)
+returns-then-duplicate c = rw (← c.received_in_overflow-duplicate.ensures.is, c.if-duplicate.true) (answered-is _ _ _ _ _ c.answered.ensures c.complete_if-step.ensures)
 
 pub returns : goal.returns
 unfolding replayed_counted
-returns c = rw (← c.received_in_overflow-seen.ensures.is, c.if-seen.false) (answered-is _ _ _ _ _ c.answered-2.ensures c.complete_if-step.ensures)
+returns c = rw (← c.received_in_overflow-duplicate.ensures.is, c.if-duplicate.false) (answered-is _ _ _ _ _ c.answered-2.ensures c.complete_if-step.ensures)

@@ -30,4 +30,4 @@ returns-then-is_asking c = rw (ap (λ (f : Option PeerFinished). finish_at f (vi
 
 pub returns : goal.returns
 unfolding maybe_finish_receiving saying
-returns c = rw (ap (λ (f : Option PeerFinished). finish_at f (view c.args.self) c.args.binding) c.in-Some.is, c.if-finished.false, is_true c.is_established.ensures c.if-not-is_established.false, is_true c.is_empty.ensures c.if-not-is_empty.false, is_false c.is_asking.ensures c.if-is_asking.false) (said _ _ _ _ _ c.send-sent.ensures.is c.stay-2.ensures)
+returns c = rw (ap (λ (f : Option PeerFinished). finish_at f (view c.args.self) c.args.binding) c.in-Some.is, c.if-finished.false, is_true c.is_established.ensures c.if-not-is_established.false, is_true c.is_empty.ensures c.if-not-is_empty.false, is_false c.is_asking.ensures c.if-is_asking.false, ← c.leave_sequence-leaving.ensures) (said _ _ _ _ _ c.send-sent.ensures.is c.stay-2.ensures)

@@ -13,4 +13,4 @@ event_with-told-requires-clause-self_len_bound c = omega (arith, queued-length _
 
 pub returns : goal.returns
 unfolding refuse_retransmit saying
-returns c = said _ _ _ _ _ (then-queued _ _ _ _ _ c.send_with-sent.ensures.is c.event_with-told.ensures.is) c.stay.ensures
+returns c = rw (← c.leave_sequence-leaving.ensures) (said _ _ _ _ _ (then-queued _ _ _ _ _ c.send_with-sent.ensures.is c.event_with-told.ensures.is) c.stay.ensures)

@@ -22,4 +22,4 @@ returns-in_default c = rw (is_true c.is_established.ensures c.if-not-is_establis
 
 pub returns : goal.returns
 unfolding reject_refused reject_retransmit_request saying
-returns c = rw (is_true c.is_established.ensures c.if-not-is_established.false, is_true c.fits.ensures c.if-not-fits.false, ap (λ (v : Option Provider). serving_refused v) c.in-Some.is, ap (λ (v : Option Provider). reject_at v c.args.code c.args.text (view c.args.self) c.args.binding) c.in-Some.is) (said _ _ _ _ _ c.send_quoting-sent.ensures.is c.stay.ensures)
+returns c = rw (is_true c.is_established.ensures c.if-not-is_established.false, is_true c.fits.ensures c.if-not-fits.false, ap (λ (v : Option Provider). serving_refused v) c.in-Some.is, ap (λ (v : Option Provider). reject_at v c.args.code c.args.text (view c.args.self) c.args.binding) c.in-Some.is, ← c.leave_sequence-leaving.ensures) (said _ _ _ _ _ c.send_quoting-sent.ensures.is c.stay.ensures)

@@ -8,25 +8,25 @@ use Rattle.rings.proofs.Cases.{consume-zero, consume-none, consume-whole, consum
 use Rattle.rings.proofs.gaps.Gaps.consume_missing.Goals as goal
 
 pub returns-then-count-eq0 : goal.returns-then-count-eq0
-returns-then-count-eq0 c = rw (consume-zero c.args.count (lists_of c.args.self) c.if-count-eq0.true) (search rules)
+returns-then-count-eq0 c = rw (consume-zero c.args.count (lists_of c.args.self.now) c.if-count-eq0.true) (search rules)
 
 pub returns-in_default : goal.returns-in_default
-returns-in_default c = rw (consume-none c.args.count (lists_of c.args.self) c.if-count-eq0.false (sym c.front.ensures ∙ c.in_default.is)) (search rules)
+returns-in_default c = rw (consume-none c.args.count (lists_of c.args.self.now) c.if-count-eq0.false (sym c.front.ensures ∙ c.in_default.is)) (search rules)
 
 pub returns-then-first-count : goal.returns-then-first-count
 returns-then-first-count c =
-    rw (consume-whole c.args.count (lists_of c.args.self) c.in-Some.first c.if-count-eq0.false (sym c.front.ensures ∙ c.in-Some.is) (omega (arith, c.if-first-count.true)))
+    rw (consume-whole c.args.count (lists_of c.args.self.now) c.in-Some.first c.if-count-eq0.false (sym c.front.ensures ∙ c.in-Some.is) (omega (arith, c.if-first-count.true)))
     c.drop_first.ensures
 
 pub returns-then-first-count-2 : goal.returns-then-first-count-2
 returns-then-first-count-2 c =
-    rw (consume-whole c.args.count (lists_of c.args.self) c.in-Some.first c.if-count-eq0.false (sym c.front.ensures ∙ c.in-Some.is) (omega (arith, c.if-first-count-2.true)))
+    rw (consume-whole c.args.count (lists_of c.args.self.now) c.in-Some.first c.if-count-eq0.false (sym c.front.ensures ∙ c.in-Some.is) (omega (arith, c.if-first-count-2.true)))
     c.drop_first-then-first-count-2.ensures
 
 pub set_front-requires : goal.set_front-requires
-set_front-requires c = (omega arith, (search rules, front_long (list_of c.args.self.missing) c.in-Some.first (sym c.front.ensures ∙ c.in-Some.is)))
+set_front-requires c = (omega arith, (search rules, front_long (list_of c.args.self.now.missing) c.in-Some.first (sym c.front.ensures ∙ c.in-Some.is)))
 
 pub returns : goal.returns
 returns c =
-    rw (consume-part c.args.count (lists_of c.args.self) c.in-Some.first c.if-count-eq0.false (sym c.front.ensures ∙ c.in-Some.is) (omega (arith, c.if-first-count.false, c.if-first-count-2.false)))
+    rw (consume-part c.args.count (lists_of c.args.self.now) c.in-Some.first c.if-count-eq0.false (sym c.front.ensures ∙ c.in-Some.is) (omega (arith, c.if-first-count.false, c.if-first-count-2.false)))
     (record { wf = search rules; is = rw c.set_front.ensures.is })

@@ -16,9 +16,9 @@ returns-then-len-eq0 c =
     let none : length left ≡ 0 = omega arith in
     record { wf = search rules; is = rw (← c.pop_front.ensures.is, nil-of left none, c.new-self.ensures.is) }
 
-pub returns : goal.returns
+pub returns-else-len-eq0 : goal.returns-else-len-eq0
 unfolding drop_first
-returns c =
+returns-else-len-eq0 c =
     let left = list_of c.pop_front.new.self in
-    let runs = list_of c.args.self.overflow_received in
+    let runs = list_of c.args.self.now.overflow_received in
     record { wf = search rules; is = rw (← c.pop_front.ensures.is, runs-with left runs (λ e. c.if-len-eq0.false (c.len.ensures ∙ e))) }

@@ -9,35 +9,35 @@ use Rattle.rings.proofs.Cases.{hold-first, hold-touching, hold-full, hold-run}
 use Rattle.rings.proofs.gaps.Gaps.hold_refused_gap.Goals as goal
 
 pub returns-then-len-max : goal.returns-then-len-max
-returns-then-len-max c = rw (hold-first c.args.max c.args.from c.args.end (lists_of c.args.self) (omega arith)) (record { wf = search rules; is = rw c.push_gap-longer.ensures.is })
+returns-then-len-max c = rw (hold-first c.args.max c.args.from c.args.end (lists_of c.args.self.now) (omega arith)) (record { wf = search rules; is = rw c.push_gap.ensures.is })
 
-pub push_gap-longer-requires-in_default-clause-self_len_bound : goal.push_gap-longer-requires-in_default-clause-self_len_bound
-push_gap-longer-requires-in_default-clause-self_len_bound c =
-    let none = back_none (list_of c.args.self.missing) (sym c.back.ensures ∙ c.in_default.is) in
+pub push_gap-requires-in_default-clause-room : goal.push_gap-requires-in_default-clause-room
+push_gap-requires-in_default-clause-room c =
+    let none = back_none (list_of c.args.self.now.missing) (sym c.back.ensures ∙ c.in_default.is) in
     omega arith
 
 pub returns-in_default : goal.returns-in_default
 returns-in_default c =
-    let none = back_none (list_of c.args.self.missing) (sym c.back.ensures ∙ c.in_default.is) in
-    rw (hold-first c.args.max c.args.from c.args.end (lists_of c.args.self) (omega arith)) (record { wf = search rules; is = rw c.push_gap-longer-in_default.ensures.is })
+    let none = back_none (list_of c.args.self.now.missing) (sym c.back.ensures ∙ c.in_default.is) in
+    rw (hold-first c.args.max c.args.from c.args.end (lists_of c.args.self.now) (omega arith)) (record { wf = search rules; is = rw c.push_gap-in_default.ensures.is })
 
-pub widen_last-wider-requires-clause-missing_nonzero : goal.widen_last-wider-requires-clause-missing_nonzero
-widen_last-wider-requires-clause-missing_nonzero c = back_long (list_of c.args.self.missing) c.in-Some.last (sym c.back.ensures ∙ c.in-Some.is)
+pub widen_last-requires-clause-nonzero : goal.widen_last-requires-clause-nonzero
+widen_last-requires-clause-nonzero c = back_long (list_of c.args.self.now.missing) c.in-Some.last (sym c.back.ensures ∙ c.in-Some.is)
 
 pub returns-then-last-from : goal.returns-then-last-from
 returns-then-last-from c =
-    rw (hold-touching c.args.max c.args.from c.args.end (lists_of c.args.self) c.in-Some.last (omega arith) (sym c.back.ensures ∙ c.in-Some.is) c.if-last-from.true)
-    (record { wf = search rules; is = rw c.widen_last-wider.ensures.is })
+    rw (hold-touching c.args.max c.args.from c.args.end (lists_of c.args.self.now) c.in-Some.last (omega arith) (sym c.back.ensures ∙ c.in-Some.is) c.if-last-from.true)
+    (record { wf = search rules; is = rw c.widen_last.ensures.is })
 
 pub returns-then-len-ge-MAX_RUNS : goal.returns-then-len-ge-MAX_RUNS
 returns-then-len-ge-MAX_RUNS c =
-    rw (hold-full c.args.max c.args.from c.args.end (lists_of c.args.self) c.in-Some.last (omega arith) (sym c.back.ensures ∙ c.in-Some.is) c.if-last-from.false (omega arith))
+    rw (hold-full c.args.max c.args.from c.args.end (lists_of c.args.self.now) c.in-Some.last (omega arith) (sym c.back.ensures ∙ c.in-Some.is) c.if-last-from.false (omega arith))
     (search rules)
 
-pub widen_last-wider-requires-2-clause-missing_nonzero : goal.widen_last-wider-requires-2-clause-missing_nonzero
-widen_last-wider-requires-2-clause-missing_nonzero c = back_long (list_of c.args.self.missing) c.in-Some.last (sym c.back.ensures ∙ c.in-Some.is)
+pub widen_last-requires-2-clause-nonzero : goal.widen_last-requires-2-clause-nonzero
+widen_last-requires-2-clause-nonzero c = back_long (list_of c.args.self.now.missing) c.in-Some.last (sym c.back.ensures ∙ c.in-Some.is)
 
 pub returns : goal.returns
 returns c =
-    rw (hold-run c.args.max c.args.from c.args.end (lists_of c.args.self) c.in-Some.last (omega (arith, c.len.ensures)) (sym c.back.ensures ∙ c.in-Some.is) c.if-last-from.false (omega (arith, c.len-2.ensures)), ← c.push_back.ensures.is)
-    (record { wf = search rules; is = rw c.widen_last-wider-2.ensures.is })
+    rw (hold-run c.args.max c.args.from c.args.end (lists_of c.args.self.now) c.in-Some.last (omega (arith, c.len.ensures)) (sym c.back.ensures ∙ c.in-Some.is) c.if-last-from.false (omega (arith, c.len-2.ensures)), ← c.push_back.ensures.is)
+    (record { wf = search rules; is = rw c.widen_last-2.ensures.is })

@@ -5,4 +5,4 @@ use Rattle.rings.proofs.gaps.Gaps.widen_last.Goals as goal
 
 pub returns : goal.returns
 unfolding widen
-returns c = record { wf = search rules; is = rw (← c.later-until.ensures, c.set_back.ensures.is) }
+returns c = record { wf = search rules; is = rw (← c.later.ensures, c.set_back.ensures.is) }
