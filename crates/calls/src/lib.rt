@@ -21,6 +21,7 @@ use types::ids::{
 use types::messages::PeerMessage;
 use types::reasons::Reason;
 
+// Session, link and queue are three arguments: `lent` has the queue apart from the other two.
 /// What a call leaves, and its answer.
 #[derive(Clone, Copy)]
 pub struct Called {

@@ -1,8 +1,9 @@
 //! What a record asks for becomes a call: the one place where the trace program and the library make calls, each with the queue lent.
 #![tactic(auto)]
 
+ghost use Rattle.std.specs.Prelude.{◌≡◌};
 ghost use Rattle.calls.specs.View.{Answered};
-ghost use Rattle.dispatch.specs.Entries.{call_of};
+ghost use Rattle.dispatch.specs.Entries.{call_of, is_call};
 ghost use Rattle.lent.specs.View.{called};
 
 use lent::Handed;
@@ -12,6 +13,13 @@ use trace::records::Entry;
 use types::binding::Link;
 use types::ids::{Instant, Nanotime};
 use types::reasons::Reason;
+
+/// Whether an entry is a call on a session: neither an open nor malformed.
+pub fn is_call(entry: Entry) -> bool
+    ensures { result ≡ is_call entry }
+{
+    !matches!(entry, Entry::Open { .. } | Entry::Malformed)
+}
 
 /// The call of an entry. An open or a malformed one is no call on a session: its caller has turned it away, and it releases.
 pub fn run(

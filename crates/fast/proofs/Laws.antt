@@ -115,9 +115,9 @@ pub idle_never : (now : Instant) (s : Sess) (b : Binding) → is_established b.s
 idle_never now s b e i = idle_rule true None now s b e i refl
 
 -- ---- the header of a batch
-pub header_rule : (m : Retransmission) (o : Outstanding) (s : Sess) (b : Binding) → is_closing b.state ≡ false → is_recoverable s.remote_flow ≡ true → same_id m.session_id s.id ≡ true → s.outstanding ≡ Some o → eqb m.request_timestamp.0 o.timestamp.0 ≡ true → (m.count ≡ 0 → ⊥) → o.delivered + m.count ≤ o.count → o.from.0 ≤ m.next_seq_no.0 → m.next_seq_no.0 - o.from.0 ≡ o.delivered → Header (Some o) m s b
-unfolding on_peer on_retransmission in_range
-header_rule m o s b c f i e t z k from n = λ now stamp reason text. rw (c, f, i, e, t, le-leb 1 m.count (omega (arith, z)), le-leb (m.count + o.delivered) o.count (omega (arith, k)), eq-eqb m.next_seq_no.0 (o.from.0 + o.delivered) (omega (arith, from, n)))
+pub header_rule : (m : Retransmission) (o : Outstanding) (s : Sess) (b : Binding) → is_closing b.state ≡ false → is_recoverable s.remote_flow ≡ true → same_id m.session_id s.id ≡ true → s.outstanding ≡ Some o → eqb m.request_timestamp.0 o.timestamp.0 ≡ true → in_range m o ≡ true → Header (Some o) m s b
+unfolding on_peer on_retransmission
+header_rule m o s b c f i e t r = λ now stamp reason text. rw (c, f, i, e, t, r)
 
 -- ---- the first gap
 pub lost_rule : (stamp : Nanotime) (n expected : SeqNum) (s : Sess) (b : Binding) → is_established b.state ≡ true → s.start_pending ≡ false → is_recoverable s.remote_flow ≡ true → is_some s.replay ≡ false → is_some s.peer_finished ≡ false → is_some s.outstanding ≡ false → (stamp.0 ≡ all_ones → ⊥) → (s.config.max_pending_gaps ≡ 0 → ⊥) → is_nil s.gaps.missing ≡ true → s.inbound_next ≡ Some expected → expected.0 < n.0 → n.0 - expected.0 ≤ s.config.max_gap_len → Lost (Some (record { from = expected; end = n })) n stamp s b
@@ -141,11 +141,11 @@ recovered_rule r o g s b e f p last k out d z full runs one first w =
     λ now stamp. rw (established-is b.state e, p, ne_eqb r.next.0 all_ones k, le-leb r.remaining 1 last, out, ne_eqb o.delivered 4294967295 d, le-leb o.count (o.delivered + 1) full, nil-of s.gaps.overflow_received runs, only_one s.gaps.missing g first one, ne_eqb o.count 0 z, le-ltb (g.from.0 + o.count) g.end.0 (omega (arith, w)), none-of s.peer_finished f)
 
 -- ---- serving
-pub asked_rule : (t : Bool) (m : RetransmitRequest) (s : Sess) (b : Binding) → is_established b.state ≡ true → is_recoverable s.local_flow ≡ true → same_id m.session_id s.id ≡ true → is_some s.provider ≡ false → (m.count ≡ 0 → ⊥) → m.count ≤ s.config.max_retransmit_count → (m.from_seq_no.0 ≡ 0 → ⊥) → m.from_seq_no.0 ≤ s.outbound_next.0 → t ≡ leb m.count (s.outbound_next.0 - m.from_seq_no.0) → Asked t m s b
-unfolding on_peer on_retransmit_request is_sent serve
-asked_rule true m s b e f i v z l from until t =
-    λ now stamp reason text. rw (established-is b.state e, f, i, none-of s.provider v, ne_eqb m.count 0 z, le-ltb s.config.max_retransmit_count m.count l, le-leb 1 m.from_seq_no.0 (omega (arith, from)), le-leb (m.from_seq_no.0 + m.count) s.outbound_next.0 (omega (arith, until, leb-true m.count (s.outbound_next.0 - m.from_seq_no.0) (sym t))))
-asked_rule false m s b e f i v z l from until t = tt
+pub asked_rule : (t : Bool) (m : RetransmitRequest) (s : Sess) (b : Binding) → is_established b.state ≡ true → is_recoverable s.local_flow ≡ true → same_id m.session_id s.id ≡ true → is_some s.provider ≡ false → (m.count ≡ 0 → ⊥) → m.count ≤ s.config.max_retransmit_count → t ≡ is_sent m s → Asked t m s b
+unfolding on_peer on_retransmit_request serve
+asked_rule true m s b e f i v z l t =
+    λ now stamp reason text. rw (established-is b.state e, f, i, none-of s.provider v, ne_eqb m.count 0 z, le-ltb s.config.max_retransmit_count m.count l, sym t)
+asked_rule false m s b e f i v z l t = tt
 
 -- ---- a batch: nothing refuses it, and it is the rule's
 pub batch_passes : (count : ℕ) (v : Provider) (s : Sess) (b : Binding) → is_established b.state ≡ true → s.provider ≡ Some v → v.sent + count ≤ v.count → v.sent ≤ all_ones - v.from.0 → v.from.0 ≤ all_ones → retransmit_refused count s b ≡ passes

@@ -8,6 +8,7 @@ ghost use Rattle.fast.specs.Quick.{ready_record, Live, Same, Sent, Idle, Header,
 
 use queue::{MAX_OUTPUTS, Outputs};
 use session::Session;
+use session::asking::in_range;
 use types::binding::Binding;
 use types::ids::{ALL_ONES, Instant, Nanotime, SeqNum};
 use types::messages::{Retransmission, RetransmitRequest};
@@ -98,12 +99,7 @@ pub fn header(session: Session, binding: Binding, message: Retransmission) -> Op
         return None;
     }
     let outstanding = session.outstanding?;
-    if message.request_timestamp != outstanding.timestamp
-        || message.count == 0
-        || outstanding.delivered as u64 + message.count as u64 > outstanding.count as u64
-        || message.next_seq_no < outstanding.from
-        || message.next_seq_no.0 - outstanding.from.0 != outstanding.delivered as u64
-    {
+    if message.request_timestamp != outstanding.timestamp || !in_range(message, outstanding) {
         return None;
     }
     Some(outstanding)
@@ -178,9 +174,7 @@ pub fn asked(session: Session, binding: Binding, message: RetransmitRequest) -> 
         && session.provider.is_none()
         && message.count != 0
         && message.count <= session.config.max_retransmit_count
-        && message.from_seq_no.0 != 0
-        && message.from_seq_no <= session.outbound_next
-        && message.count as u64 <= session.outbound_next.0 - message.from_seq_no.0
+        && session.is_sent(message)
 }
 
 /// The request that a batch of this count answers.

@@ -1,5 +1,5 @@
 -- The session, the binding and the call that plain records stand for.
-use Rattle.std.specs.Prelude.{Bool, true, false, map}
+use Rattle.std.specs.Prelude.{Bool, true, false, not, map}
 use Rattle.rules.specs.Names.{Instant, Nanotime, Link}
 use Rattle.rules.specs.Gaps.{max_gaps, max_runs}
 use Rattle.rules.specs.Calls.{Call}
@@ -91,18 +91,7 @@ done_out r = record { «record» = record_out r.session r.link r.queue; reply = 
 
 -- ---- the call: what is no call is refused before
 abbrev pub is_malformed : Entry → Bool
-is_malformed (entry.Open i l r g) = true
-is_malformed (entry.Bind l r n) = false
-is_malformed entry.Release = false
-is_malformed entry.Application = false
-is_malformed (entry.Peer m) = false
-is_malformed entry.Send = false
-is_malformed (entry.Terminate k) = false
-is_malformed (entry.Retransmit n) = false
-is_malformed (entry.Reject k) = false
-is_malformed entry.End = false
-is_malformed entry.Timeout = false
-is_malformed entry.Malformed = true
+is_malformed e = not (entries.is_call e)
 
 abbrev pub now_of : Request → Instant
 now_of q = record { 0 = q.now }

@@ -4,7 +4,7 @@
 ghost use Rattle.std.specs.Prelude.{◌≡◌, ◌&&◌, true, false, MatchOption, MatchResult};
 ghost use Rattle.calls.specs.View.{Answered, good_record};
 ghost use Rattle.library.specs.Exported.{is_clean, is_good, held_in, is_opening, refused_out, CallIs, OpenOut, deadline_reply, ClosedIs};
-ghost use Rattle.library.specs.Records.{session_in, link_in, record_out, done_out, call_of, is_malformed};
+ghost use Rattle.library.specs.Records.{session_in, link_in, record_out, done_out, call_of};
 
 use crate::answers::numbered;
 use crate::codes::{flow_in, listed};
@@ -193,12 +193,6 @@ impl Held {
     }
 }
 
-fn is_malformed(entry: Entry) -> bool
-    ensures { result ≡ is_malformed entry }
-{
-    matches!(entry, Entry::Open { .. } | Entry::Malformed)
-}
-
 /// A call on a record. A number outside its list is refused: 1 in a record, then 5 in a request.
 pub fn fixp_call(record: Record, request: Request) -> Done
     ensures { CallIs «record» request result }
@@ -207,7 +201,7 @@ pub fn fixp_call(record: Record, request: Request) -> Done
         return refused(record, Refusal::BadRecord);
     };
     let entry = Entry::from(request);
-    if !is_malformed(entry) {
+    if dispatch::is_call(entry) {
         return held.run(entry, request).into();
     }
     if !held.is_good() {

@@ -14,6 +14,8 @@ use types::output::{Event, Line, Quote, Said};
 /// "A call queues at most 6 outputs" (01).
 pub const ROOM_FOR_CALL: usize = 6;
 
+// The pushes of `Outputs` once more, with a Quote where those have bytes: a trait of both would state order and room as its members, in more words
+// than it saves, and a step calls one of the two.
 /// The first `count` lines, in order.
 #[derive(Clone, Copy)]
 pub struct Added {

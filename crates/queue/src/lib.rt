@@ -22,6 +22,8 @@ pub mod added;
 /// The places of the queue (01, "Built, and not built").
 pub const MAX_OUTPUTS: usize = 32;
 
+// A ring of its own beside `rings::ring`: a generic struct has no array of a type parameter. Its order is no invariant: a host may hand in any
+// head and count, which refusal 1 looks at.
 /// Outputs in order, oldest at `head`. `closing` is set when this side asks for the transport to be closed.
 #[derive(Clone, Copy)]
 pub struct Outputs {
@@ -38,6 +40,7 @@ pub struct Polled {
     pub output: Option<Output>,
 }
 
+// Two tests, and no Option: `free` speaks of a queue that is in order too.
 /// What a call has to know of the queue before it is made: whether it passes the record check (1), and whether six places are free (7).
 #[derive(Clone, Copy)]
 pub struct Room {
@@ -46,6 +49,7 @@ pub struct Room {
 }
 
 /// The queue after a call's outputs were put into it, and whether they were.
+// No `Result`: the queue comes back either way, and is used either way.
 #[derive(Clone, Copy)]
 pub struct Put {
     pub queue: Outputs,

@@ -12,7 +12,7 @@ use Rattle.trace.specs.Text.{line_text, first_text, end_text, stop_text}
 use Rattle.trace.specs.declared.records.Record.{Record}
 use Rattle.trace.specs.declared.records.Entry.{Entry}
 use Rattle.trace.specs.declared.records.Entry.TheVariants as entry
-use Rattle.dispatch.specs.Entries.{call_of}
+use Rattle.dispatch.specs.Entries.{call_of, is_call}
 use Rattle.replay.specs.Missing.{missing_figure}
 
 -- "The program reads up to 65,536 bytes"
@@ -34,18 +34,7 @@ records s = records_from (length s) s 0
 
 -- "A malformed record, any later open": the run stops there
 abbrev pub goes_on : Entry → Bool
-goes_on (entry.Open i l r g) = false
-goes_on (entry.Bind l r n) = true
-goes_on entry.Release = true
-goes_on entry.Application = true
-goes_on (entry.Peer m) = true
-goes_on entry.Send = true
-goes_on (entry.Terminate k) = true
-goes_on (entry.Retransmit n) = true
-goes_on (entry.Reject k) = true
-goes_on entry.End = true
-goes_on entry.Timeout = true
-goes_on entry.Malformed = false
+goes_on e = is_call e
 
 abbrev pub asks : Record → Call
 asks r = call_of r.entry r.now r.stamp r.reason

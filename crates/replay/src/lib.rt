@@ -8,7 +8,7 @@ ghost use Rattle.queue.specs.View.{OutsWf};
 ghost use Rattle.session.specs.View.{view, SessWf};
 ghost use Rattle.calls.specs.View.{world_of};
 ghost use Rattle.trace.specs.Text.{line_text, first_text, end_text, stop_text, max_line, Adds};
-ghost use Rattle.replay.specs.Run.{goes_on, lines_from, lines_of, records, records_from, max_input, max_output, Prints, TraceIs};
+ghost use Rattle.replay.specs.Run.{lines_from, lines_of, records, records_from, max_input, max_output, Prints, TraceIs};
 ghost use Rattle.replay.specs.Stepped.{Stepped};
 
 use crate::missing::missing_in;
@@ -40,13 +40,6 @@ fn status_of(link: Link) -> SessionStatus
         Some(binding) => binding.status(),
         None => SessionStatus::Unbound,
     }
-}
-
-/// Whether a record may follow an open: neither another open nor malformed.
-fn goes_on(entry: Entry) -> bool
-    ensures { result ≡ goes_on entry }
-{
-    !matches!(entry, Entry::Open { .. } | Entry::Malformed)
 }
 
 /// The line of a record: where session and binding stand after it.
@@ -178,7 +171,7 @@ fn run(mut records: Trace, opened: Called, out: &mut [u8], first: usize) -> usiz
     let mut index: u64 = 1;
     while let Some(bytes) = records.next_record() {
         let record = trace::records::read_record(bytes);
-        if !goes_on(record.entry) {
+        if !dispatch::is_call(record.entry) {
             return trace::text::stop_line(out, wrote, index);
         }
         let told = held.step(record);
@@ -296,6 +289,7 @@ pub fn read_full<R: Read>(reader: &mut R, buf: &mut [u8]) -> io::Result<usize>
     ensures length_kept { length buf.new ≡ length buf.old }
 {
     let mut done = 0;
+    // No `for`: each turn goes on by as much as was read.
     while done < buf.len() {
         let n = reader.read(&mut buf[done..])?;
         if n == 0 {

@@ -7,6 +7,7 @@ use crate::place::place;
 use types::ids::SeqNum;
 use types::parts::Gap;
 
+// Order is no invariant of the type: a record that a host hands in may have any head and count, which refusal 1 looks at.
 /// `count` gaps, in order, from the place `head` on.
 #[derive(Clone, Copy)]
 pub struct Ring<const ROOM: usize> {

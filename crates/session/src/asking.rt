@@ -313,7 +313,7 @@ impl Session {
 }
 
 /// "next undelivered number and remaining count": a header's count is 1 to what remains of its request.
-fn in_range(message: Retransmission, outstanding: Outstanding) -> bool
+pub fn in_range(message: Retransmission, outstanding: Outstanding) -> bool
     ensures { result ≡ in_range message outstanding }
 {
     if message.count < 1 {

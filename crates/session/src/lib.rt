@@ -27,6 +27,8 @@ pub mod peer;
 pub mod queries;
 pub mod serving;
 
+// Order is no invariant of the type: a session that a host hands in may be in any state (refusal 1). So a step asks for one fact, `Ready` or `InOrder`,
+// and its methods stay the session's, as in session.rs: a type that held the fact would take every field a name further off.
 /// The logical session: identity, flows, configuration and sequence state (FIXP 3.4.3).
 #[derive(Clone, Copy)]
 pub struct Session {
@@ -51,6 +53,7 @@ pub struct Session {
     pub finalized: bool,
 }
 
+// Session, binding and queue are three arguments, and `now` and `stamp` two, as session.rs passes them.
 /// What a step leaves: session, binding and queue, whether the binding stands, and the answer.
 #[derive(Clone, Copy)]
 pub struct Step {

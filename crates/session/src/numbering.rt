@@ -25,6 +25,7 @@ use types::reasons::{
     SEQUENCE_UNSEQUENCED, TOO_MANY_GAPS,
 };
 
+// No `Result`: both parts speak of every message.
 /// The session after one more delivered message, and whether its request is now answered in full.
 #[derive(Clone, Copy)]
 pub struct Counted {

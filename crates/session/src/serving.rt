@@ -25,7 +25,7 @@ impl Session {
     }
 
     /// "from at least 1 and end at most `outbound_next`": a sum that does not fit is past it too.
-    fn is_sent(self, message: RetransmitRequest) -> bool
+    pub fn is_sent(self, message: RetransmitRequest) -> bool
         ensures { result ≡ is_sent message (view self) }
     {
         let next = self.outbound_next;

@@ -116,6 +116,7 @@ pub enum MessageName {
 
 impl PeerMessage {
     /// The message's name, for events.
+    // No `From`: it is the Rust's own method, and of no other type's values.
     pub fn name(self) -> MessageName
         ensures { result ≡ name_of self }
     {

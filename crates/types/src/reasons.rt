@@ -31,6 +31,7 @@ impl Reason {
     }
 }
 
+// Numbers and no enum: an output that a host hands back may have any byte here, and the steps and rules that take one take any.
 /// it arrived after the counterparty's Terminate
 pub const AFTER_TERMINATE: u8 = 1;
 /// Context for another session: multiplexed transports are not supported
