@@ -142,7 +142,7 @@ recovered_rule r o g s b e f p last k out d z full runs one first w =
 
 -- ---- serving
 pub asked_rule : (t : Bool) (m : RetransmitRequest) (s : Sess) (b : Binding) → is_established b.state ≡ true → is_recoverable s.local_flow ≡ true → same_id m.session_id s.id ≡ true → is_some s.provider ≡ false → (m.count ≡ 0 → ⊥) → m.count ≤ s.config.max_retransmit_count → t ≡ is_sent m s → Asked t m s b
-unfolding on_peer on_retransmit_request serve
+unfolding on_peer on_retransmit_request is_sent serve
 asked_rule true m s b e f i v z l t =
     λ now stamp reason text. rw (established-is b.state e, f, i, none-of s.provider v, ne_eqb m.count 0 z, le-ltb s.config.max_retransmit_count m.count l, sym t)
 asked_rule false m s b e f i v z l t = tt

@@ -35,7 +35,7 @@ impl<'a> Trace<'a> {
 
 /// How many bytes the record at a place has: none where it is too short for a header, or runs past the end.
 #[tactic(auto, unfolding(crate::specs::Places::size_at))]
-fn size_at(s: &[u8], at: usize) -> usize
+pub fn size_at(s: &[u8], at: usize) -> usize
     requires { at ≤ length s.now }
     ensures { result ≡ size_at s.now at }
 {
@@ -48,7 +48,7 @@ fn size_at(s: &[u8], at: usize) -> usize
 }
 
 /// A part of a slice.
-fn part<'a>(s: &'a [u8], at: usize, n: usize) -> &'a [u8]
+pub fn part<'a>(s: &'a [u8], at: usize, n: usize) -> &'a [u8]
     requires { at + n ≤ length s.now }
     ensures { Part s.entry at n result }
 {
