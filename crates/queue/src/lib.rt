@@ -1,7 +1,7 @@
 //! The output queue of Core with its closing flag (session.rs, Core): 32 places, filled by steps and emptied by the host.
 #![tactic(auto)]
 
-ghost use Rattle.std.specs.Prelude.{◌≡◌, ◌||◌, ◌∷◌, [], ◌+◌, ◌<◌, ◌≤◌, length};
+ghost use Rattle.std.specs.Prelude.{◌≡◌, ◌||◌, ◌∷◌, [], ◌+◌, ◌<◌, length};
 ghost use Rattle.rules.specs.State.{is_close, queued};
 ghost use Rattle.rules.specs.Outputs.{output, send, send_with, send_quoting, event, event_with, event_quoting, close_transport};
 ghost use Rattle.rules.specs.Names.said;

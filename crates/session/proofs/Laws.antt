@@ -3,6 +3,7 @@ use Rattle.std.specs.Prelude.{if◌then◌else◌, None}
 use Prim.Native.Nat.{ℕ, ◌+◌, ◌-◌, ◌<◌, ◌≤◌}
 use mathlib.Core.Path.{◌≡◌, refl, ap, sym, ◌∙◌}
 use mathlib.Core.Bool.{Bool, true, false, not}
+use mathlib.Core.Logic.{◌⊎◌, inl, inr}
 use mathlib.Core.List.{List, [], ◌∷◌, ◌++◌}
 use lib.ListN.{length, length-append}
 use borrow.Author.Tests.{eq-eqb, ne_eqb, eqb-true, eqb-false}
@@ -40,6 +41,11 @@ differs {u = false} e t = refl
 pub agrees : {t u : Bool} → t ≡ not u → t ≡ false → u ≡ true
 agrees {u = true} e t = refl
 agrees {u = false} e t = sym t ∙ e
+
+-- one way of a match for two values, at which a function is the same
+pub by_either : {A B : Type 0} (f : A → B) (x a b : A) → f a ≡ f b → (x ≡ a) ⊎ (x ≡ b) → f x ≡ f a
+by_either f x a b e (inl p) = ap f p
+by_either f x a b e (inr p) = ap f p ∙ sym e
 
 -- a sum compared by the difference
 pub eqb-moved : (a b d : ℕ) → b ≤ a → eqb (a - b) d ≡ eqb a (b + d)

@@ -1,7 +1,6 @@
 //! Asking for what is missing, one request at a time (FIXP 4.6), and saying that all was received (FIXP 4.7.2).
-ghost use Rattle.std.specs.Prelude.{◌≡◌, ◌+◌, ◌-◌, ◌<◌, ◌≤◌, length};
-ghost use Rattle.queue.specs.View.{queue_of, OutsWf};
-ghost use Rattle.rules.specs.Ending.{consumed};
+ghost use Rattle.std.specs.Prelude.{◌≡◌, ◌+◌, ◌-◌, ◌<◌};
+ghost use Rattle.queue.specs.View.{queue_of};
 ghost use Rattle.rules.specs.Asking.{is_outstanding, unasked, fewer, ask, request_missing, maybe_finish_receiving, recovered, completed_at, complete_outstanding, in_range, begin_batch, on_retransmission, on_retransmit_reject, rejected, re_request};
 ghost use Rattle.session.specs.View.{view, SessWf, SessIs, StepIs, InOrder, Ready};
 

@@ -1,7 +1,7 @@
 //! Binding a session to a transport (FIXP 4.3).
-ghost use Rattle.std.specs.Prelude.{◌≡◌, ◌+◌, ◌≤◌, length};
-ghost use Rattle.queue.specs.View.{queue_of, OutsWf};
-ghost use Rattle.rules.specs.Binding.{established, resume, established_at, on_established, bind};
+ghost use Rattle.std.specs.Prelude.{◌≡◌};
+ghost use Rattle.queue.specs.View.{queue_of};
+ghost use Rattle.rules.specs.Binding.{established, resume, on_established, bind};
 ghost use Rattle.session.specs.View.{view, StepIs, Ready};
 
 use crate::{Session, Step};

@@ -1,6 +1,6 @@
 //! Deadlines and timeouts: silence, then stall, then heartbeat (FIXP 4.4 and 4.5).
-ghost use Rattle.std.specs.Prelude.{◌≡◌, ◌+◌, ◌≤◌, length};
-ghost use Rattle.queue.specs.View.{queue_of, OutsWf};
+ghost use Rattle.std.specs.Prelude.{◌≡◌, ◌+◌};
+ghost use Rattle.queue.specs.View.{queue_of};
 ghost use Rattle.rules.specs.Deadlines.{grace_or, silence_deadline, stall_deadline, heartbeat_deadline, next_deadline, heartbeat_if_due, wait_out, stall_by, on_stall, stall_if_due, established_timeout, on_timeout};
 ghost use Rattle.session.specs.View.{view, StepIs, InOrder, Ready};
 

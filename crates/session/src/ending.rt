@@ -1,6 +1,6 @@
 //! How a binding ends: what it leaves, failures and violations, the peer's Terminate (FIXP 4.4 and 6.3).
-ghost use Rattle.std.specs.Prelude.{◌≡◌, ◌&&◌, ◌+◌, ◌≤◌, length};
-ghost use Rattle.queue.specs.View.{queue_of, OutsWf};
+ghost use Rattle.std.specs.Prelude.{◌≡◌, ◌&&◌};
+ghost use Rattle.queue.specs.View.{queue_of};
 ghost use Rattle.rules.specs.Ending.{consumed, released_at, release_binding_state, finished_receiving_sent, finalize_if_finished, fail, violation, ended_by, answer_terminate, answered_terminate, on_terminate};
 ghost use Rattle.session.specs.View.{view, SessWf, SessIs, StepIs, Ready};
 

@@ -1,7 +1,6 @@
 //! The peer's flow ends (FIXP 4.7).
-ghost use Rattle.std.specs.Prelude.{◌≡◌, ◌+◌, ◌≤◌, ◌<◌, length};
-ghost use Rattle.queue.specs.View.{queue_of, OutsWf};
-ghost use Rattle.types.specs.Base.{all_ones};
+ghost use Rattle.std.specs.Prelude.{◌≡◌, ◌+◌, ◌<◌};
+ghost use Rattle.queue.specs.View.{queue_of};
 ghost use Rattle.rules.specs.Finishing.{finished_with, below, last_at, finished_sending, on_finished_sending};
 ghost use Rattle.session.specs.View.{view, StepIs, Ready};
 

@@ -2,7 +2,7 @@
 #![tactic(auto)]
 
 ghost use Rattle.std.specs.Prelude.{◌≡◌, [], ◌≤◌};
-ghost use Rattle.queue.specs.View.{queue_of, OutsWf};
+ghost use Rattle.queue.specs.View.{queue_of};
 ghost use Rattle.rules.specs.Names.bound as bind;
 ghost use Rattle.rules.specs.State.{did, stays, ends};
 ghost use Rattle.rules.specs.Binding.{new_session};

@@ -1,6 +1,6 @@
 //! The local calls: what each refuses, in the Rust's order, and what it does where it refuses nothing.
-ghost use Rattle.std.specs.Prelude.{◌≡◌, ◌+◌, ◌<◌, ◌≤◌, length};
-ghost use Rattle.queue.specs.View.{queue_of, OutsWf};
+ghost use Rattle.std.specs.Prelude.{◌≡◌, ◌+◌, ◌<◌, ◌≤◌};
+ghost use Rattle.queue.specs.View.{queue_of};
 ghost use Rattle.types.specs.Base.{all_ones};
 ghost use Rattle.types.specs.States.{status_of};
 ghost use Rattle.types.specs.Reasons.{max_reason_len};

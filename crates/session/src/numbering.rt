@@ -1,13 +1,13 @@
 //! Announced numbers, gaps and application messages (FIXP 3.5, 4.6 and 4.8).
-ghost use Rattle.std.specs.Prelude.{◌≡◌, [], ◌+◌, ◌-◌, ◌<◌, ◌≤◌, length};
-ghost use Rattle.queue.specs.View.{queue_of, OutsWf};
+ghost use Rattle.std.specs.Prelude.{◌≡◌, [], ◌+◌, ◌-◌, ◌<◌, ◌≤◌};
+ghost use Rattle.queue.specs.View.{queue_of};
 ghost use Rattle.types.specs.Base.{all_ones};
 ghost use Rattle.rules.specs.Names.flow;
 ghost use Rattle.rules.specs.State.{stays, with_inbound, with_replay, with_outstanding, answering};
 ghost use Rattle.rings.specs.View.{view_kept};
 ghost use Rattle.rules.specs.Ending.{violation};
-ghost use Rattle.rules.specs.Numbering.{allocate_outbound, not_applied_numbered, send_not_applied, gap_held, gap_recorded, gap_reported, gap_on, on_gap, cut_off, past_finished, stop_replay, announced_to, announced, on_next_seq};
-ghost use Rattle.rules.specs.Numbering.{discard, replay_after, count_delivered, complete_if, replayed_counted, on_replayed, number_live, numbered_as, is_peer_finished, on_live, on_application};
+ghost use Rattle.rules.specs.Numbering.{allocate_outbound, not_applied_numbered, send_not_applied, gap_held, gap_reported, gap_on, on_gap, cut_off, past_finished, stop_replay, announced, on_next_seq};
+ghost use Rattle.rules.specs.Numbering.{discard, replay_after, count_delivered, complete_if, replayed_counted, on_replayed, number_live, is_peer_finished, on_live, on_application};
 ghost use Rattle.session.specs.View.{view, SessWf, SessIs, StepIs, CountedIs, InOrder, Ready};
 
 use crate::{Session, Step};
@@ -204,8 +204,7 @@ impl Session {
                     retransmitted: false,
                 })),
             ),
-            FlowType::Recoverable => self.number_live(binding, queue),
-            FlowType::Idempotent => self.number_live(binding, queue),
+            FlowType::Recoverable | FlowType::Idempotent => self.number_live(binding, queue),
         }
     }
 
@@ -366,8 +365,7 @@ impl Session {
         match self.remote_flow {
             FlowType::Recoverable => self.record_gap(binding, told, expected, next, now, stamp),
             FlowType::Idempotent => self.report_gap(binding, told, expected, next, now),
-            FlowType::Unsequenced => self.skip_gap(binding, told, next),
-            FlowType::None => self.skip_gap(binding, told, next),
+            FlowType::Unsequenced | FlowType::None => self.skip_gap(binding, told, next),
         }
     }
 
@@ -510,8 +508,9 @@ impl Session {
                 kept.last_keepalive = now;
                 self.stay(kept, sent)
             }
-            FlowType::Recoverable => self.number_not_applied(binding, queue, message, now),
-            FlowType::Idempotent => self.number_not_applied(binding, queue, message, now),
+            FlowType::Recoverable | FlowType::Idempotent => {
+                self.number_not_applied(binding, queue, message, now)
+            }
         }
     }
 }

@@ -1,8 +1,7 @@
 //! A session message of the peer, by its kind (FIXP 3.5 and 4.4 to 4.8).
-ghost use Rattle.std.specs.Prelude.{◌≡◌, ◌+◌, ◌≤◌, length};
-ghost use Rattle.queue.specs.View.{queue_of, OutsWf};
-ghost use Rattle.rules.specs.Names.verdict;
-ghost use Rattle.rules.specs.Peer.{on_context, on_unsequenced_heartbeat, is_accept, on_applied, on_not_applied, on_message, is_delivery, on_peer};
+ghost use Rattle.std.specs.Prelude.{◌≡◌};
+ghost use Rattle.queue.specs.View.{queue_of};
+ghost use Rattle.rules.specs.Peer.{on_context, on_unsequenced_heartbeat, is_accept, on_applied, on_not_applied, on_message, on_peer};
 ghost use Rattle.session.specs.View.{view, StepIs, closing_answer, Ready};
 
 use crate::{Session, Step};
@@ -17,27 +16,11 @@ use types::reasons::{
     Reason, TOPIC,
 };
 
-/// Whether a delivery accepts a message.
-fn is_accepted(delivery: Delivery) -> bool
-    ensures { result ≡ is_accept (Ok (verdict.Delivered delivery)) }
-{
-    match delivery {
-        Delivery::Accept { seq, retransmitted } => true,
-        Delivery::Discard => false,
-    }
-}
-
 /// Whether an answer accepts a message.
 fn is_accept(answer: Result<Verdict, Refusal>) -> bool
     ensures { result ≡ is_accept answer }
 {
-    match answer {
-        Ok(Verdict::Done) => false,
-        Ok(Verdict::Delivered(delivery)) => is_accepted(delivery),
-        Ok(Verdict::Sent(seq)) => false,
-        Ok(Verdict::Batch(batch)) => false,
-        Err(refusal) => false,
-    }
+    matches!(answer, Ok(Verdict::Delivered(Delivery::Accept { .. })))
 }
 
 /// What a closing binding answers: Applied and NotApplied carry their delivery.
@@ -45,19 +28,10 @@ fn closing_answer(message: PeerMessage) -> Result<Verdict, Refusal>
     ensures { result ≡ closing_answer message }
 {
     match message {
-        PeerMessage::Topic => Ok(Verdict::Done),
-        PeerMessage::Sequence(m) => Ok(Verdict::Done),
-        PeerMessage::Context(m) => Ok(Verdict::Done),
-        PeerMessage::UnsequencedHeartbeat => Ok(Verdict::Done),
-        PeerMessage::RetransmitRequest(m) => Ok(Verdict::Done),
-        PeerMessage::Retransmission(m) => Ok(Verdict::Done),
-        PeerMessage::RetransmitReject(m) => Ok(Verdict::Done),
-        PeerMessage::Terminate(m) => Ok(Verdict::Done),
-        PeerMessage::FinishedSending(m) => Ok(Verdict::Done),
-        PeerMessage::FinishedReceiving => Ok(Verdict::Done),
-        PeerMessage::Applied(m) => Ok(Verdict::Delivered(Delivery::Discard)),
-        PeerMessage::NotApplied(m) => Ok(Verdict::Delivered(Delivery::Discard)),
-        PeerMessage::MessageTemplate => Ok(Verdict::Done),
+        PeerMessage::Applied(_) | PeerMessage::NotApplied(_) => {
+            Ok(Verdict::Delivered(Delivery::Discard))
+        }
+        _ => Ok(Verdict::Done),
     }
 }
 

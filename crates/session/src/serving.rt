@@ -1,6 +1,6 @@
 //! A peer's RetransmitRequest (FIXP 4.6.1 to 4.6.4).
-ghost use Rattle.std.specs.Prelude.{◌≡◌, ◌+◌, ◌≤◌, length};
-ghost use Rattle.queue.specs.View.{queue_of, OutsWf};
+ghost use Rattle.std.specs.Prelude.{◌≡◌};
+ghost use Rattle.queue.specs.View.{queue_of};
 ghost use Rattle.rules.specs.Serving.{is_serving, refuse_retransmit, is_sent, serve, on_retransmit_request};
 ghost use Rattle.session.specs.View.{view, StepIs, Ready};
 

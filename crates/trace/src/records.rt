@@ -289,8 +289,7 @@ fn reason_of(kind: u16, s: &[u8]) -> Reason
     match kind {
         37 => reason_at(s, 45),
         38 => reason_at(s, 37),
-        65 => reason_at(s, 21),
-        67 => reason_at(s, 21),
+        65 | 67 => reason_at(s, 21),
         _ => Reason::none(),
     }
 }

@@ -1,10 +1,10 @@
 -- The gap is told, then by the flow.
 use native.Mathlib.Omega.{arith}
-use mathlib.Core.Path.{ap}
+use mathlib.Core.Path.{ap, refl}
 use Rattle.rules.specs.Names.{FlowType}
 use Rattle.rules.specs.Numbering.{gap_on, on_gap}
 use Rattle.session.specs.View.{view}
-use Rattle.session.proofs.Laws.{queued-length, said}
+use Rattle.session.proofs.Laws.{queued-length, said, by_either}
 use Rattle.session.proofs.Session.on_gap.Goals as goal
 
 pub record_gap-requires : goal.record_gap-requires
@@ -26,8 +26,4 @@ returns-in-Idempotent c = rw (ap (λ (v : FlowType). gap_on v c.args.now c.args.
 
 pub returns-in-Unsequenced : goal.returns-in-Unsequenced
 unfolding on_gap
-returns-in-Unsequenced c = rw (ap (λ (v : FlowType). gap_on v c.args.now c.args.stamp c.args.expected c.args.next (view c.args.self) c.args.binding) c.in-Unsequenced.is) (said _ _ _ _ _ c.event-told.ensures.is c.skip_gap.ensures)
-
-pub returns-in-None : goal.returns-in-None
-unfolding on_gap
-returns-in-None c = rw (ap (λ (v : FlowType). gap_on v c.args.now c.args.stamp c.args.expected c.args.next (view c.args.self) c.args.binding) c.in-None.is) (said _ _ _ _ _ c.event-told.ensures.is c.skip_gap-in-None.ensures)
+returns-in-Unsequenced c = rw (by_either (λ (v : FlowType). gap_on v c.args.now c.args.stamp c.args.expected c.args.next (view c.args.self) c.args.binding) _ _ _ refl c.in-Unsequenced.is) (said _ _ _ _ _ c.event-told.ensures.is c.skip_gap.ensures)

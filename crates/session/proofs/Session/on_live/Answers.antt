@@ -1,9 +1,9 @@
 -- After FinishedSending it is a violation; then by the flow.
-use mathlib.Core.Path.{ap}
+use mathlib.Core.Path.{ap, refl}
 use Rattle.rules.specs.Names.{FlowType}
 use Rattle.rules.specs.Numbering.{live_on, on_live}
 use Rattle.session.specs.View.{view}
-use Rattle.session.proofs.Laws.{is_true, is_false}
+use Rattle.session.proofs.Laws.{is_true, is_false, by_either}
 use Rattle.session.proofs.Session.on_live.Goals as goal
 
 pub returns-then-is_peer_finished : goal.returns-then-is_peer_finished
@@ -20,8 +20,4 @@ returns-in-Unsequenced c = rw (is_false c.is_peer_finished.ensures c.if-is_peer_
 
 pub returns-in-Recoverable : goal.returns-in-Recoverable
 unfolding on_live
-returns-in-Recoverable c = rw (is_false c.is_peer_finished.ensures c.if-is_peer_finished.false, ap (λ (v : FlowType). live_on v (view c.args.self) c.args.binding) c.in-Recoverable.is) c.number_live.ensures
-
-pub returns-in-Idempotent : goal.returns-in-Idempotent
-unfolding on_live
-returns-in-Idempotent c = rw (is_false c.is_peer_finished.ensures c.if-is_peer_finished.false, ap (λ (v : FlowType). live_on v (view c.args.self) c.args.binding) c.in-Idempotent.is) c.number_live-in-Idempotent.ensures
+returns-in-Recoverable c = rw (is_false c.is_peer_finished.ensures c.if-is_peer_finished.false, by_either (λ (v : FlowType). live_on v (view c.args.self) c.args.binding) _ _ _ refl c.in-Recoverable.is) c.number_live.ensures

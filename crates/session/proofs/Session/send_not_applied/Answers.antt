@@ -1,10 +1,10 @@
 -- Only an Established binding sends, and only a flow that carries application messages.
-use mathlib.Core.Path.{ap}
+use mathlib.Core.Path.{ap, refl}
 use Rattle.rules.specs.Names.{FlowType}
 use Rattle.rules.specs.State.{saying}
 use Rattle.rules.specs.Numbering.{not_applied_on, send_not_applied}
 use Rattle.session.specs.View.{view}
-use Rattle.session.proofs.Laws.{is_false, is_true, said}
+use Rattle.session.proofs.Laws.{is_false, is_true, said, by_either}
 use Rattle.session.proofs.Session.send_not_applied.Goals as goal
 
 pub returns-then-not-is_established : goal.returns-then-not-is_established
@@ -21,8 +21,4 @@ returns-in-Unsequenced c = rw (is_true c.is_established.ensures c.if-not-is_esta
 
 pub returns-in-Recoverable : goal.returns-in-Recoverable
 unfolding send_not_applied
-returns-in-Recoverable c = rw (is_true c.is_established.ensures c.if-not-is_established.false, ap (λ (v : FlowType). not_applied_on v c.args.now c.args.message (view c.args.self) c.args.binding) c.in-Recoverable.is) c.number_not_applied.ensures
-
-pub returns-in-Idempotent : goal.returns-in-Idempotent
-unfolding send_not_applied
-returns-in-Idempotent c = rw (is_true c.is_established.ensures c.if-not-is_established.false, ap (λ (v : FlowType). not_applied_on v c.args.now c.args.message (view c.args.self) c.args.binding) c.in-Idempotent.is) c.number_not_applied-in-Idempotent.ensures
+returns-in-Recoverable c = rw (is_true c.is_established.ensures c.if-not-is_established.false, by_either (λ (v : FlowType). not_applied_on v c.args.now c.args.message (view c.args.self) c.args.binding) _ _ _ refl c.in-Recoverable.is) c.number_not_applied.ensures
