@@ -13,6 +13,7 @@ use types::messages::{
 use types::output::{Event, Output, Said};
 use types::reasons::Reason;
 
+// No `From`: it reads the fields of one kind, and `Out` as a whole is an `Output`.
 /// What is sent, by the kinds 32 to 42, or reported, by the kinds from 101; else CloseTransport.
 #[tactic(auto, unfolding(crate::specs::Outputs::said_in))]
 fn said_in(o: Out) -> Said

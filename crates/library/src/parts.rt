@@ -99,7 +99,7 @@ impl From<Reason> for Text {
     ghost from_gives = { λ r t. t ≡ text_out r };
 
     fn from(reason: Reason) -> Text {
-        // as above
+        // as for the Reason of a Text
         let bytes = reason.bytes;
         Text {
             bytes,
@@ -258,6 +258,7 @@ impl From<Option<PeerFinished>> for Finished {
     }
 }
 
+// No `From`: it reads the fields of one phase, and `Bond` as a whole is an `Option<Binding>`.
 /// The state by its phase: 1 Established, 2 Terminating, 3 Closing.
 #[tactic(auto, unfolding(crate::specs::Parts::state_in))]
 fn state_in(b: Bond) -> BindState

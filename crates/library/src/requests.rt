@@ -11,6 +11,7 @@ use types::messages::{
     RetransmitRequest, Sequence, Terminate,
 };
 
+// No `From` here and at `peer_in`: each reads the fields of some kinds, and a Request as a whole is an Entry.
 /// A peer's message by the kinds 32 to 44.
 #[tactic(auto, unfolding(crate::specs::Requests::message_in))]
 fn message_in(r: Request) -> PeerMessage

@@ -15,7 +15,7 @@ use types::output::{Event, Line, Quote, Said};
 pub const ROOM_FOR_CALL: usize = 6;
 
 // The pushes of `Outputs` once more, with a Quote where those have bytes: a trait of both would state order and room as its members, in more words
-// than it saves, and a step calls one of the two.
+// than it saves, and these take the place of those once steps hand back what they add. Array and count: there is no heap, and 01 fixes the room.
 /// The first `count` lines, in order.
 #[derive(Clone, Copy)]
 pub struct Added {

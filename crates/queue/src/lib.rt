@@ -40,7 +40,7 @@ pub struct Polled {
     pub output: Option<Output>,
 }
 
-// Two tests, and no Option: `free` speaks of a queue that is in order too.
+// Two flags and no `Option<bool>`: refusals 1 and 7 are two tests, which a call makes at two places of 01's order.
 /// What a call has to know of the queue before it is made: whether it passes the record check (1), and whether six places are free (7).
 #[derive(Clone, Copy)]
 pub struct Room {

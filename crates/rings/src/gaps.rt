@@ -22,6 +22,7 @@ pub struct Gaps {
     pub overflow_received: Ring<MAX_RUNS>,
 }
 
+// A function of its own: the library's `max` under the rule's name, `later_of`.
 /// The later of two numbers.
 #[tactic(auto, unfolding(rules::specs::Gaps::later_of))]
 fn later(a: SeqNum, b: SeqNum) -> SeqNum

@@ -226,6 +226,7 @@ fn reject_at(s: &[u8]) -> Entry
     Entry::Reject(code)
 }
 
+// `kind` is the number in the record's bytes, here and below: any number may stand there, and each of ours has a length of its own.
 /// The messages of the peer, kinds 32 to 44, with the length of each record.
 #[tactic(auto, unfolding(crate::specs::Format::peer_of, crate::specs::Format::exactly, crate::specs::Format::at_least))]
 fn peer_of(kind: u16, s: &[u8]) -> Entry
