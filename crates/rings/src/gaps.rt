@@ -43,9 +43,10 @@ impl Gaps {
     }
 
     /// Whether each list's position and count are within its room (01, refusal 1).
+    // By value, as `is_empty`: as for the ring.
     #[tactic(auto, unfolding(crate::specs::View::sound_gaps))]
-    pub fn sound(&self) -> bool
-        ensures { result ≡ sound_gaps self.now }
+    pub fn sound(self) -> bool
+        ensures { result ≡ sound_gaps self }
     {
         self.missing.sound() && self.overflow_received.sound()
     }
@@ -59,8 +60,8 @@ impl Gaps {
     }
 
     /// Whether nothing is missing.
-    pub fn is_empty(&self) -> bool
-        ensures { result ≡ is_nil (lists_of self.now).missing }
+    pub fn is_empty(self) -> bool
+        ensures { result ≡ is_nil (lists_of self).missing }
     {
         self.missing.len() == 0
     }

@@ -34,15 +34,16 @@ impl<const ROOM: usize> Ring<ROOM> {
     }
 
     /// Whether position and count are within the room (01, refusal 1).
-    pub fn sound(&self) -> bool
-        ensures { result ≡ sound_ring self.now }
+    // By value, as `len`: lent, a ring in a record that is a value is copied whole first, 72 ns in a live message of 4.
+    pub fn sound(self) -> bool
+        ensures { result ≡ sound_ring self.entry }
     {
         self.head < ROOM && self.count <= ROOM
     }
 
     /// How many gaps there are.
-    pub fn len(&self) -> usize
-        ensures { result ≡ length (list_of self.now) }
+    pub fn len(self) -> usize
+        ensures { result ≡ length (list_of self.entry) }
     {
         self.count
     }

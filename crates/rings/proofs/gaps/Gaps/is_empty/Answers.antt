@@ -4,4 +4,4 @@ use Rattle.rings.specs.View.{list_of}
 use Rattle.rings.proofs.gaps.Gaps.is_empty.Goals as goal
 
 pub returns : goal.returns
-returns c = rw c.len.ensures (nil-eqb (list_of c.args.self.now.missing))
+returns c = rw c.len.ensures (nil-eqb (list_of c.args.self.missing))

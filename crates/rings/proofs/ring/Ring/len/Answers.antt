@@ -4,4 +4,4 @@ use Rattle.rings.proofs.GapLaws.{ring_length}
 use Rattle.rings.proofs.ring.Ring.len.Goals as goal
 
 pub returns : goal.returns
-returns g c = sym (ring_length c.args.self.now)
+returns g c = sym (ring_length c.args.self)
