@@ -55,9 +55,12 @@ impl Held {
         }
     }
 
-    /// Goes on with what a plain call left.
-    fn left(&mut self, called: Called) -> Option<()> {
-        *self = hold(called)?;
+    /// Goes on with what the plain call leaves.
+    // A function of its own: where the call stands in a loop, what it leaves has room there that is cleared at each turn, 70 ns.
+    fn plain<F: FnOnce(Held) -> Called>(&mut self, call: F) -> Option<()>
+        requires { F.pre call self.old }
+    {
+        *self = hold(call(*self))?;
         Some(())
     }
 
@@ -71,10 +74,10 @@ impl Held {
     /// A live message.
     fn live(&mut self, now: Instant) -> Option<()> {
         let Some(seq) = fast::live(self.session, self.binding) else {
-            return self.left(calls::on_application(
-                self.session,
-                self.link(),
-                self.queue,
+            return self.plain(|held| calls::on_application(
+                held.session,
+                held.link(),
+                held.queue,
                 now,
                 STAMP,
             ));
@@ -88,10 +91,10 @@ impl Held {
     /// An announced number.
     fn same(&mut self, now: Instant, next_seq_no: SeqNum) -> Option<()> {
         if !self.is_ready() || !fast::same(self.session, self.binding, next_seq_no) {
-            return self.left(calls::on_peer(
-                self.session,
-                self.link(),
-                self.queue,
+            return self.plain(|held| calls::on_peer(
+                held.session,
+                held.link(),
+                held.queue,
                 now,
                 STAMP,
                 PeerMessage::Sequence(Sequence { next_seq_no }),
@@ -106,7 +109,12 @@ impl Held {
     /// A message sent.
     fn send(&mut self, now: Instant) -> Option<()> {
         if !self.is_ready() || !fast::sent(self.session, self.binding) {
-            return self.left(calls::send_application(self.session, self.link(), self.queue, now));
+            return self.plain(|held| calls::send_application(
+                held.session,
+                held.link(),
+                held.queue,
+                now,
+            ));
         }
         self.session.outbound_next = SeqNum(self.session.outbound_next.0.checked_add(1)?);
         self.binding.last_keepalive = now;
@@ -118,7 +126,7 @@ impl Held {
         if self.is_ready() && fast::idle(self.session, self.binding, now) {
             return Some(());
         }
-        self.left(calls::on_timeout(self.session, self.link(), self.queue, now, STAMP))
+        self.plain(|held| calls::on_timeout(held.session, held.link(), held.queue, now, STAMP))
     }
 
     /// A Sequence that leaves out one message, which is asked for.
@@ -224,10 +232,10 @@ impl Held {
             count: 2,
         };
         if !self.is_ready() || !fast::asked(self.session, self.binding, request) {
-            return self.left(calls::on_peer(
-                self.session,
-                self.link(),
-                self.queue,
+            return self.plain(|held| calls::on_peer(
+                held.session,
+                held.link(),
+                held.queue,
                 now,
                 STAMP,
                 PeerMessage::RetransmitRequest(request),
@@ -256,7 +264,7 @@ impl Held {
             return None;
         }
         let Some(provider) = fast::batch(self.session, self.binding, 2) else {
-            self.left(calls::retransmit(self.session, self.link(), self.queue, now, 2))?;
+            self.plain(|held| calls::retransmit(held.session, held.link(), held.queue, now, 2))?;
             return Some(0);
         };
         self.say(
