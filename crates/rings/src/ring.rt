@@ -34,7 +34,7 @@ impl<const ROOM: usize> Ring<ROOM> {
     }
 
     /// Whether position and count are within the room (01, refusal 1).
-    // By value, as `len`: lent, a ring in a record that is a value is copied whole first, 72 ns in a live message of 4.
+    // By value, as `len`: its callers hold the record as a value.
     pub fn sound(self) -> bool
         ensures { result ≡ sound_ring self.entry }
     {
