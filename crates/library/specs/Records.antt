@@ -1,5 +1,5 @@
 -- The session, the binding and the call that plain records stand for.
-use Rattle.std.specs.Prelude.{Bool, true, false, not, map}
+use Rattle.std.specs.Prelude.{Bool, not, map}
 use Rattle.rules.specs.Names.{Instant, Nanotime, Link}
 use Rattle.rules.specs.Gaps.{max_gaps, max_runs}
 use Rattle.rules.specs.Calls.{Call}
@@ -11,7 +11,6 @@ use Rattle.calls.specs.declared.Called.{Called}
 use Rattle.types.specs.Flows.{flow_number}
 use Rattle.dispatch.specs.Entries as entries
 use Rattle.trace.specs.declared.records.Entry.{Entry}
-use Rattle.trace.specs.declared.records.Entry.TheVariants as entry
 use Rattle.library.specs.declared.mirror.Missing.{Missing}
 use Rattle.library.specs.declared.mirror.Overflow.{Overflow}
 use Rattle.library.specs.declared.mirror.Record.{Record}
