@@ -12,6 +12,7 @@ use crate::output::TerminatedBy;
 #[derive(Clone, Copy, PartialEq, Eq)]
 pub struct Unlisted;
 
+// A table for each enum: the numbers differ, and the gate takes no impl that a macro of ours writes.
 impl TryFrom<u8> for FlowType {
     type Error = Unlisted;
 
