@@ -1,5 +1,5 @@
 -- Each rule of the rule book where the ordinary case's tests hold. The function that makes these tests names its rule, and the check does the rest.
-use Rattle.std.specs.Prelude.{if◌then◌else◌, Option, Some, None}
+use Rattle.std.specs.Prelude.{if◌then◌else◌, Option, Some, None, Ok}
 use Rattle.std.specs.Option.{is_some, option_eq}
 use Rattle.fast.specs.Quick.{Live, Same, Sent, Idle, Header, Lost, Recovered, Asked}
 use Prim.Native.Nat.{ℕ, ◌+◌, ◌-◌, ◌<◌, ◌≤◌}
@@ -12,11 +12,13 @@ use lib.ListN.{length}
 use borrow.Author.Tests.{le-ltb, le-leb, lt-leb, leb-true, leb-false, ne_eqb, eq-eqb, eqb-true, ltb-true, not-true}
 use Rattle.types.specs.Base.{all_ones, same_id}
 use Rattle.types.specs.Flows.{is_sequenced, is_recoverable, carries_none}
-use Rattle.types.specs.States.{is_closing, is_established}
+use Rattle.types.specs.States.{is_closing, is_established, with_keepalive}
 use Rattle.rules.specs.Names.{SeqNum, Nanotime, Instant, Binding, BindState, FlowType, Gap, Outstanding, Replay, Provider, Retransmission, RetransmitRequest}
+use Rattle.rules.specs.Names.bound
 use Rattle.rules.specs.Names.flow
 use Rattle.rules.specs.Names.state
-use Rattle.rules.specs.State.{Sess, saying, answering, and_then}
+use Rattle.rules.specs.Names.verdict
+use Rattle.rules.specs.State.{Sess, did, saying, answering, and_then, with_outbound}
 use Rattle.rules.specs.Lists.{is_nil, front_of, rest}
 use Rattle.rings.specs.declared.gaps.Gaps.{Gaps}
 use Rattle.rings.specs.View.{sound_gaps, RingWf}
@@ -25,7 +27,7 @@ use Rattle.rings.proofs.Laws.{nil-of}
 use Rattle.rules.specs.Gaps.{record_gap, append_gap, received_in_overflow, consume_missing, drop_first}
 use Rattle.rules.specs.Asking.{ask, request_missing, on_retransmission, in_range, recovered, complete_outstanding, maybe_finish_receiving}
 use Rattle.rules.specs.Serving.{is_sent, serve, on_retransmit_request}
-use Rattle.rules.specs.Numbering.{on_gap, gap_recorded, on_replayed, replay_after, replayed_counted, count_delivered, complete_if, on_application, on_live, number_live, allocate_outbound, on_next_seq, stop_replay, announced}
+use Rattle.rules.specs.Numbering.{on_gap, gap_recorded, on_replayed, replay_after, replayed_counted, count_delivered, complete_if, next, on_application, on_live, number_live, allocate_outbound, on_next_seq, stop_replay, announced}
 use Rattle.rules.specs.Peer.{on_peer}
 use Rattle.rules.specs.Local.{passes, send_refused, send_application, retransmit_refused, retransmit, batch}
 use Rattle.rules.specs.Deadlines.{deadline_in, timeout_in, is_due, earlier, silence_deadline, stall_deadline, heartbeat_deadline, next_deadline, stall_if_due, heartbeat_if_due, established_timeout, on_timeout}
@@ -80,12 +82,21 @@ same_rule true n s b o start flow z p f e = go s.inbound_next refl e
 same_rule false n s b o start flow z p f e = tt
 
 -- ---- a message sent in sequence
+-- nothing refuses it, in sequence or not
+pub sent-passes : (s : Sess) (b : Binding) → is_established b.state ≡ true → is_sequenced s.local_flow ≡ true → s.peer_finished ≡ None → leb (all_ones - 1) s.outbound_next.0 ≡ false → send_refused s b ≡ passes
+unfolding send_refused
+sent-passes s b e flow f k = rw (e, f, sequenced-carries s.local_flow flow, flow, k)
+
+-- and in sequence it takes its number, whatever else stands
+pub sent-numbers : (now : Instant) (s : Sess) (b : Binding) → is_sequenced s.local_flow ≡ true → b.in_sequence ≡ true → send_application now s b ≡ did (with_outbound (next s.outbound_next) s) (with_keepalive now b) [] bound.Stay (Ok (verdict.Sent (Some s.outbound_next)))
+unfolding send_application answering allocate_outbound
+sent-numbers now s b flow i = rw (flow, i)
+
 pub sent_rule : (t : Bool) (s : Sess) (b : Binding) → is_established b.state ≡ true → b.in_sequence ≡ true → is_sequenced s.local_flow ≡ true → is_some s.peer_finished ≡ false → t ≡ ltb s.outbound_next.0 (all_ones - 1) → Sent t s b
-unfolding send_refused send_application answering allocate_outbound
 sent_rule true s b e i flow f k =
     record {
-      passed = rw (e, none-of s.peer_finished f, sequenced-carries s.local_flow flow, flow, lt-leb (all_ones - 1) s.outbound_next.0 (ltb-true s.outbound_next.0 (all_ones - 1) (sym k)));
-      does = λ now. rw (flow, i);
+      passed = sent-passes s b e flow (none-of s.peer_finished f) (lt-leb (all_ones - 1) s.outbound_next.0 (ltb-true s.outbound_next.0 (all_ones - 1) (sym k)));
+      does = λ now. sent-numbers now s b flow i;
     }
 sent_rule false s b e i flow f k = tt
 
@@ -119,6 +130,10 @@ pub header_rule : (m : Retransmission) (o : Outstanding) (s : Sess) (b : Binding
 unfolding on_peer on_retransmission
 header_rule m o s b c f i e t r = λ now stamp reason text. rw (c, f, i, e, t, r)
 
+pub in-range : (m : Retransmission) (o : Outstanding) → 1 ≤ m.count → m.count + o.delivered ≤ o.count → m.next_seq_no.0 ≡ o.from.0 + o.delivered → in_range m o ≡ true
+unfolding in_range
+in-range m o a b e = rw (le-leb 1 m.count a, le-leb (m.count + o.delivered) o.count b, eq-eqb m.next_seq_no.0 (o.from.0 + o.delivered) e)
+
 -- ---- the first gap
 pub lost_rule : (stamp : Nanotime) (n expected : SeqNum) (s : Sess) (b : Binding) → is_established b.state ≡ true → s.start_pending ≡ false → is_recoverable s.remote_flow ≡ true → is_some s.replay ≡ false → is_some s.peer_finished ≡ false → is_some s.outstanding ≡ false → (stamp.0 ≡ all_ones → ⊥) → (s.config.max_pending_gaps ≡ 0 → ⊥) → is_nil s.gaps.missing ≡ true → s.inbound_next ≡ Some expected → expected.0 < n.0 → n.0 - expected.0 ≤ s.config.max_gap_len → Lost (Some (record { from = expected; end = n })) n stamp s b
 unfolding on_peer on_next_seq stop_replay announced on_gap gap_recorded record_gap append_gap request_missing ask saying
@@ -146,6 +161,10 @@ unfolding on_peer on_retransmit_request is_sent serve
 asked_rule true m s b e f i v z l t =
     λ now stamp reason text. rw (established-is b.state e, f, i, none-of s.provider v, ne_eqb m.count 0 z, le-ltb s.config.max_retransmit_count m.count l, sym t)
 asked_rule false m s b e f i v z l t = tt
+
+pub is-sent : (m : RetransmitRequest) (s : Sess) → 1 ≤ m.from_seq_no.0 → m.from_seq_no.0 + m.count ≤ s.outbound_next.0 → is_sent m s ≡ true
+unfolding is_sent
+is-sent m s a b = rw (le-leb 1 m.from_seq_no.0 a, le-leb (m.from_seq_no.0 + m.count) s.outbound_next.0 b)
 
 -- ---- a batch: nothing refuses it, and it is the rule's
 pub batch_passes : (count : ℕ) (v : Provider) (s : Sess) (b : Binding) → is_established b.state ≡ true → s.provider ≡ Some v → v.sent + count ≤ v.count → v.sent ≤ all_ones - v.from.0 → v.from.0 ≤ all_ones → retransmit_refused count s b ≡ passes

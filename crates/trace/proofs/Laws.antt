@@ -1,9 +1,9 @@
 -- Laws of the little-endian numbers and the bytes at a place of a list, and of where records stand.
-use Prim.Native.Nat.{ℕ, zero, suc, ◌+◌, ◌<◌, ◌≤◌}
+use Prim.Native.Nat.{ℕ, zero, suc, ◌+◌, ◌*◌, ◌^◌, ◌<◌, ◌≤◌}
 use mathlib.Core.Path.{◌≡◌, refl, ap, ◌∙◌}
 use mathlib.Core.Bool.{true}
 use mathlib.Core.List.{List, [], ◌∷◌}
-use native.Mathlib.Nat.{add-zero}
+use native.Mathlib.Nat.{zero-add, suc-add, add-zero, pow-succ', mul_assoc}
 use native.Mathlib.Decide.{dec_lt}
 use native.Mathlib.Omega.{arith}
 use borrow.Author.Tests.{le-leb, lt-leb, eq-eqb}
@@ -12,6 +12,21 @@ use lib.ListN.{length, get_or, set, take, drop, length-take, length-drop}
 use lib.Seq.{get_or-set_same, get_or-set_other, get_or-take, get_or-drop}
 use Rattle.trace.specs.Format.{number_at, bytes_at, u16_at, header, framed}
 use Rattle.trace.specs.Places.{size_at, Part, RecordAt}
+
+-- a number is its lower j bytes, and the k above them at their weight
+pub number-split : (j k : ℕ) (s : List ℕ) (at : ℕ) → number_at (j + k) s at ≡ number_at j s at + 256 ^ j * number_at k s (at + j)
+unfolding number_at
+number-split zero k s at = rw (zero-add k, add-zero at) (omega arith)
+number-split (suc j) k s at =
+    let e = number-split j k s (at + 1) in
+    let p : 256 ^ suc j * number_at k s (at + suc j) ≡ 256 * (256 ^ j * number_at k s (at + 1 + j)) =
+    rw (pow-succ' 256 j, mul_assoc 256 (256 ^ j)) (ap (λ (n : ℕ). 256 * (256 ^ j * number_at k s n)) (omega arith)) in
+    rw (suc-add j k) (omega (arith, e, p))
+
+-- one byte
+pub number-one : (s : List ℕ) (at : ℕ) → number_at 1 s at ≡ get_or s at 0
+unfolding number_at
+number-one s at = omega arith
 
 -- n bytes that agree with those of s from a place on are those
 pub bytes-are : (n : ℕ) (s : List ℕ) (at : ℕ) (l : List ℕ) → length l ≡ n → ((k : ℕ) → k < n → get_or l k 0 ≡ get_or s (at + k) 0) → l ≡ bytes_at n s at
