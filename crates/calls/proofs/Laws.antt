@@ -1,20 +1,26 @@
 -- How a call's answer follows from its tests: a bad record, no binding, no room, and else the step.
-use Rattle.std.specs.Prelude.{Option, Some, Ok, Err}
+use Rattle.std.specs.Prelude.{if◌then◌else◌, Option, None, Some, Ok, Err}
 use Prim.Native.Nat.{ℕ, ◌≤◌}
 use mathlib.Core.Path.{◌≡◌, refl, ap, sym, ◌∙◌}
-use mathlib.Core.Bool.{true, false, ◌&&◌, true≢false, false≢true}
+use mathlib.Core.Bool.{Bool, true, false, ◌&&◌, true≢false, false≢true}
+use mathlib.Core.List.{[]}
 use native.Mathlib.Omega.{arith}
 use lib.ListN.{length}
 use lib.Dec.{leb, ltb}
 use borrow.Author.Tests.{leb-true, le-leb}
+use Rattle.types.specs.Flows.{is_sequenced}
 use Rattle.types.specs.Reasons.{reason_fits}
+use Rattle.types.specs.States.{with_keepalive}
 use Rattle.rules.specs.Names.{Link, Reason, Refusal, Verdict, Binding, FixpConfig}
-use Rattle.rules.specs.Names.{Instant, TerminationCode}
+use Rattle.rules.specs.Names.{Instant, TerminationCode, RetransmitRejectCode, Provider}
+use Rattle.rules.specs.Names.bound
 use Rattle.rules.specs.Names.code
 use Rattle.rules.specs.Names.refusal
-use Rattle.rules.specs.State.{Sess, Did}
+use Rattle.rules.specs.Names.verdict
+use Rattle.rules.specs.State.{Sess, Did, did, answering}
 use Rattle.rules.specs.Gaps.{max_gaps, max_runs}
-use Rattle.rules.specs.Local.{Refused, passes, refuses, unless, terminate}
+use Rattle.rules.specs.Local.{Refused, passes, refuses, unless, kept_alive, send_application, terminate, retransmit, batch, batch_at, reject_retransmit_request, reject_at, end_retransmission}
+use Rattle.rules.specs.Numbering.{allocate_outbound}
 use Rattle.rules.specs.Calls.{World, Ran, ran_as, link_after, within, config_fits, sound, texts_fit, max_outs}
 use Rattle.rings.specs.View.{sound_gaps, list_of}
 use Rattle.rings.proofs.GapLaws.{sound-wf}
@@ -25,7 +31,7 @@ use Rattle.queue.proofs.Laws.{and_left, and_right, sound-outs, outs-length}
 use Rattle.session.specs.View.{SessWf, StepIs, After, LocalIs, refused_step}
 use Rattle.session.specs.declared.Session.{Session}
 use Rattle.session.specs.declared.Step.{Step}
-use Rattle.calls.specs.View.{world_of, good_record, Ready, Unchanged, AnsweredBy, of_good, called_of}
+use Rattle.calls.specs.View.{world_of, good_record, Ready, Done, Unchanged, AnsweredBy, of_good, called_of}
 use Rattle.types.specs.Answers.{is_refused}
 use Rattle.calls.specs.declared.Called.{Called}
 
@@ -129,9 +135,47 @@ module _ {r : Called} {s : Session} {l : Link} {q : Outputs} {b : Binding} {n : 
   answer-kept t passes x reason e z a c h = absurd (true≢false (ap is_refused (sym a) ∙ ap (λ (u : After). is_refused u.answer) h.is ∙ z))
   answer-kept t (refuses x) y reason e z a c h = answer-still t x _ e c h
 
+-- a refused call as what it stands for
+pub refused-done : (r : Called) (x : Refusal) (s : Session) (l : Link) (q : Outputs) (w : World) → Unchanged r x s l q → SessWf s → OutsWf q → world_of s l q ≡ w → Done r (record { world = w; answer = Err x })
+refused-done r x s l q w u hs hq e =
+    record {
+      session = rw u.session hs;
+      queue = rw u.queue hq;
+      is = (λ i. record { world = world_of (u.session i) (u.link i) (u.queue i); answer = u.answer i }) ∙ ap (λ (v : World). record { world = v; answer = Err x }) e;
+    }
+
+-- ---- a local call that its rule does not refuse answers no refusal
+pub sent-answers : (now : Instant) (s : Sess) (b : Binding) → is_refused (send_application now s b).answer ≡ false
+unfolding send_application answering
+sent-answers now s b = go (is_sequenced s.local_flow) (answering _ (kept_alive now (allocate_outbound s b))) (did s (with_keepalive now b) [] bound.Stay (Ok (verdict.Sent None))) refl refl
+  where
+    go : (t : Bool) (x y : Did) → is_refused x.answer ≡ false → is_refused y.answer ≡ false → is_refused (if t then x else y).answer ≡ false
+    go true x y p r = p
+    go false x y p r = r
+
 pub terminated-answers : (now : Instant) (code : TerminationCode) (text : Reason) (s : Sess) (b : Binding) → is_refused (terminate now code text s b).answer ≡ false
 unfolding terminate
 terminated-answers now code.Finished text s b = refl
 terminated-answers now code.UnspecifiedError text s b = refl
 terminated-answers now code.ReRequestOutOfBounds text s b = refl
 terminated-answers now code.ReRequestInProgress text s b = refl
+
+pub batch-answers : (now : Instant) (count : ℕ) (s : Sess) (b : Binding) → is_refused (retransmit now count s b).answer ≡ false
+unfolding retransmit batch
+batch-answers now count s b = go s.provider
+  where
+    go : (v : Option Provider) → is_refused (batch_at v now count s b).answer ≡ false
+    go None = refl
+    go (Some v) = refl
+
+pub reject-answers : (code : RetransmitRejectCode) (text : Reason) (s : Sess) (b : Binding) → is_refused (reject_retransmit_request code text s b).answer ≡ false
+unfolding reject_retransmit_request
+reject-answers code text s b = go s.provider
+  where
+    go : (v : Option Provider) → is_refused (reject_at v code text s b).answer ≡ false
+    go None = refl
+    go (Some v) = refl
+
+pub end-answers : (s : Sess) (b : Binding) → is_refused (end_retransmission s b).answer ≡ false
+unfolding end_retransmission
+end-answers s b = refl

@@ -51,22 +51,22 @@ pub fn is_good(session: Session, link: Link, queue: Outputs) -> bool
 }
 
 /// 1: a bad record is refused before anything else.
-pub fn good(session: &Session, link: &Link, queue: &Outputs) -> Result<(), Refusal>
-    ensures value { result ≡ if_good (good_record session.now link.now queue.now) tt }
-    ensures is { Checked result (of_record session.now link.now queue.now) }
-    ensures ready { OnOk result (Ready session.now link.now queue.now link.now.binding 0) }
+pub fn good(session: Session, link: Link, queue: Outputs) -> Result<(), Refusal>
+    ensures value { result ≡ if_good (good_record session link queue) tt }
+    ensures is { Checked result (of_record session link queue) }
+    ensures ready { OnOk result (Ready session link queue link.binding 0) }
 {
-    if !is_good(*session, *link, *queue) {
+    if !is_good(session, link, queue) {
         return Err(Refusal::BadRecord);
     }
     Ok(())
 }
 
 /// 7: at least 6 free places.
-fn room(queue: &Outputs) -> Result<(), Refusal>
-    requires { OutsWf queue.now }
-    ensures is { Checked result (with_room queue.now) }
-    ensures room { OnOk result (length (queue_of queue.now).outs + 6 ≤ 32) }
+fn room(queue: Outputs) -> Result<(), Refusal>
+    requires { OutsWf queue }
+    ensures is { Checked result (with_room queue) }
+    ensures room { OnOk result (length (queue_of queue).outs + 6 ≤ 32) }
 {
     if queue.len() + 6 > 32 {
         return Err(Refusal::OutputFull);
@@ -75,9 +75,9 @@ fn room(queue: &Outputs) -> Result<(), Refusal>
 }
 
 /// What a bind asks for: 1, 4, 7.
-fn unbound(session: &Session, link: &Link, queue: &Outputs) -> Result<(), Refusal>
-    ensures is { Checked result (λ rest. of_record session.now link.now queue.now (unless (not (is_bound link.now.binding)) why.AlreadyBound (with_room queue.now rest))) }
-    ensures ready { OnOk result (Ready session.now link.now queue.now None 6) }
+fn unbound(session: Session, link: Link, queue: Outputs) -> Result<(), Refusal>
+    ensures is { Checked result (λ rest. of_record session link queue (unless (not (is_bound link.binding)) why.AlreadyBound (with_room queue rest))) }
+    ensures ready { OnOk result (Ready session link queue None 6) }
 {
     good(session, link, queue)?;
     if link.binding.is_some() {
@@ -87,18 +87,18 @@ fn unbound(session: &Session, link: &Link, queue: &Outputs) -> Result<(), Refusa
 }
 
 /// The binding that a call is made on: 1, 3.
-fn bound(session: &Session, link: &Link, queue: &Outputs) -> Result<Binding, Refusal>
-    ensures is { Found result (of_bound session.now link.now queue.now) }
-    ensures ready { IfOk result (λ b. Ready session.now link.now queue.now (Some b) 0) }
+fn bound(session: Session, link: Link, queue: Outputs) -> Result<Binding, Refusal>
+    ensures is { Found result (of_bound session link queue) }
+    ensures ready { IfOk result (λ b. Ready session link queue (Some b) 0) }
 {
     good(session, link, queue)?;
     link.binding.ok_or(Refusal::NotBound)
 }
 
 /// The binding, and room for a call: 1, 3, 7.
-fn bound_with_room(session: &Session, link: &Link, queue: &Outputs) -> Result<Binding, Refusal>
-    ensures is { Found result (λ k. of_bound session.now link.now queue.now (λ b. with_room queue.now (k b))) }
-    ensures ready { IfOk result (λ b. Ready session.now link.now queue.now (Some b) 6) }
+fn bound_with_room(session: Session, link: Link, queue: Outputs) -> Result<Binding, Refusal>
+    ensures is { Found result (λ k. of_bound session link queue (λ b. with_room queue (k b))) }
+    ensures ready { IfOk result (λ b. Ready session link queue (Some b) 6) }
 {
     let binding = bound(session, link, queue)?;
     room(queue)?;
@@ -107,13 +107,13 @@ fn bound_with_room(session: &Session, link: &Link, queue: &Outputs) -> Result<Bi
 
 /// What a message of the peer asks for: 1, 3, 5, 7.
 fn bound_for_message(
-    session: &Session,
-    link: &Link,
-    queue: &Outputs,
-    text: &Reason,
+    session: Session,
+    link: Link,
+    queue: Outputs,
+    text: Reason,
 ) -> Result<Binding, Refusal>
-    ensures is { Found result (λ k. of_bound session.now link.now queue.now (λ b. unless (reason_fits text.now) why.BadMessage (with_room queue.now (k b)))) }
-    ensures ready { IfOk result (λ b. Ready session.now link.now queue.now (Some b) 6) }
+    ensures is { Found result (λ k. of_bound session link queue (λ b. unless (reason_fits text) why.BadMessage (with_room queue (k b)))) }
+    ensures ready { IfOk result (λ b. Ready session link queue (Some b) 6) }
 {
     let binding = bound(session, link, queue)?;
     if !text.fits() {
@@ -125,13 +125,13 @@ fn bound_for_message(
 
 /// What a batch of `count` messages asks for: 1, 3, 6, 7.
 fn bound_for_batch(
-    session: &Session,
-    link: &Link,
-    queue: &Outputs,
+    session: Session,
+    link: Link,
+    queue: Outputs,
     count: u32,
 ) -> Result<Binding, Refusal>
-    ensures is { Found result (λ k. of_bound session.now link.now queue.now (λ b. unless (not (eqb count 0)) why.ZeroCount (with_room queue.now (k b)))) }
-    ensures ready { IfOk result (λ b. Ready session.now link.now queue.now (Some b) 6) }
+    ensures is { Found result (λ k. of_bound session link queue (λ b. unless (not (eqb count 0)) why.ZeroCount (with_room queue (k b)))) }
+    ensures ready { IfOk result (λ b. Ready session link queue (Some b) 6) }
 {
     let binding = bound(session, link, queue)?;
     if count == 0 {
@@ -195,27 +195,27 @@ pub fn bind(
 ) -> Called
     ensures { Answered (bind_call now stamp local_keepalive remote_keepalive next) result session link queue }
 {
-    match unbound(&session, &link, &queue) {
-        Err(refusal) => refused(session, link, queue, refusal),
-        Ok(()) => answered(
-            session.bind(queue, now, stamp, local_keepalive, remote_keepalive, next),
-            Reason::none(),
-        ),
+    if let Err(refusal) = unbound(session, link, queue) {
+        return refused(session, link, queue, refusal);
     }
+    answered(
+        session.bind(queue, now, stamp, local_keepalive, remote_keepalive, next),
+        Reason::none(),
+    )
 }
 
 /// Releases the transport, bound or not: 1.
 pub fn release(session: Session, link: Link, queue: Outputs) -> Called
     ensures { Answered release_call result session link queue }
 {
-    match good(&session, &link, &queue) {
-        Err(refusal) => refused(session, link, queue, refusal),
-        Ok(()) => Called {
-            session: session.release_binding_state(),
-            link: unlink(),
-            queue,
-            answer: Ok(Verdict::Done),
-        },
+    if let Err(refusal) = good(session, link, queue) {
+        return refused(session, link, queue, refusal);
+    }
+    Called {
+        session: session.release_binding_state(),
+        link: unlink(),
+        queue,
+        answer: Ok(Verdict::Done),
     }
 }
 
@@ -231,13 +231,14 @@ pub fn on_peer(
 ) -> Called
     ensures { Answered (peer_call now stamp message text) result session link queue }
 {
-    match bound_for_message(&session, &link, &queue, &text) {
-        Err(refusal) => refused(session, link, queue, refusal),
-        Ok(binding) => answered(
-            session.on_peer(binding, queue, message, now, stamp, link.reason, text),
-            link.reason,
-        ),
-    }
+    let binding = match bound_for_message(session, link, queue, text) {
+        Ok(binding) => binding,
+        Err(refusal) => return refused(session, link, queue, refusal),
+    };
+    answered(
+        session.on_peer(binding, queue, message, now, stamp, link.reason, text),
+        link.reason,
+    )
 }
 
 /// An application message of the peer: 1, 3, 7.
@@ -250,13 +251,14 @@ pub fn on_application(
 ) -> Called
     ensures { Answered (application_call now stamp) result session link queue }
 {
-    match bound_with_room(&session, &link, &queue) {
-        Err(refusal) => refused(session, link, queue, refusal),
-        Ok(binding) => answered(
-            session.on_application(binding, queue, now, stamp),
-            link.reason,
-        ),
-    }
+    let binding = match bound_with_room(session, link, queue) {
+        Ok(binding) => binding,
+        Err(refusal) => return refused(session, link, queue, refusal),
+    };
+    answered(
+        session.on_application(binding, queue, now, stamp),
+        link.reason,
+    )
 }
 
 /// Runs the timers that are due: 1, 3, 7.
@@ -269,23 +271,25 @@ pub fn on_timeout(
 ) -> Called
     ensures { Answered (timeout_call now stamp) result session link queue }
 {
-    match bound_with_room(&session, &link, &queue) {
-        Err(refusal) => refused(session, link, queue, refusal),
-        Ok(binding) => answered(
-            session.on_timeout(binding, queue, now, stamp, link.reason),
-            link.reason,
-        ),
-    }
+    let binding = match bound_with_room(session, link, queue) {
+        Ok(binding) => binding,
+        Err(refusal) => return refused(session, link, queue, refusal),
+    };
+    answered(
+        session.on_timeout(binding, queue, now, stamp, link.reason),
+        link.reason,
+    )
 }
 
 /// Numbers an application message about to be sent: 1, 3, 7, then 8, 9, 10 or 11.
 pub fn send_application(session: Session, link: Link, queue: Outputs, now: Instant) -> Called
     ensures { Answered (send_call now) result session link queue }
 {
-    match bound_with_room(&session, &link, &queue) {
-        Err(refusal) => refused(session, link, queue, refusal),
-        Ok(binding) => answered(session.send_application(binding, queue, now), link.reason),
-    }
+    let binding = match bound_with_room(session, link, queue) {
+        Ok(binding) => binding,
+        Err(refusal) => return refused(session, link, queue, refusal),
+    };
+    answered(session.send_application(binding, queue, now), link.reason)
 }
 
 /// Starts to unbind; the reason stands beside the binding until the answer: 1, 3, 7, then 8, 14.
@@ -299,16 +303,15 @@ pub fn terminate(
 ) -> Called
     ensures { Answered (terminate_call now code text) result session link queue }
 {
-    match bound_with_room(&session, &link, &queue) {
-        Err(refusal) => refused(session, link, queue, refusal),
-        Ok(binding) => {
-            let step = session.terminate(binding, queue, code, text, now);
-            match step.answer {
-                Ok(_) => answered(step, text),
-                // The reason that stood stays.
-                Err(_) => answered(step, link.reason),
-            }
-        }
+    let binding = match bound_with_room(session, link, queue) {
+        Ok(binding) => binding,
+        Err(refusal) => return refused(session, link, queue, refusal),
+    };
+    let step = session.terminate(binding, queue, code, text, now);
+    match step.answer {
+        Ok(_) => answered(step, text),
+        // The reason that stood stays.
+        Err(_) => answered(step, link.reason),
     }
 }
 
@@ -316,10 +319,11 @@ pub fn terminate(
 pub fn retransmit(session: Session, link: Link, queue: Outputs, now: Instant, count: u32) -> Called
     ensures { Answered (retransmit_call now count) result session link queue }
 {
-    match bound_for_batch(&session, &link, &queue, count) {
-        Err(refusal) => refused(session, link, queue, refusal),
-        Ok(binding) => answered(session.retransmit(binding, queue, count, now), link.reason),
-    }
+    let binding = match bound_for_batch(session, link, queue, count) {
+        Ok(binding) => binding,
+        Err(refusal) => return refused(session, link, queue, refusal),
+    };
+    answered(session.retransmit(binding, queue, count, now), link.reason)
 }
 
 /// Refuses the request being served: 1, 3, 7, then 8, 14, 12.
@@ -332,23 +336,25 @@ pub fn reject_retransmit_request(
 ) -> Called
     ensures { Answered (reject_call code text) result session link queue }
 {
-    match bound_with_room(&session, &link, &queue) {
-        Err(refusal) => refused(session, link, queue, refusal),
-        Ok(binding) => answered(
-            session.reject_retransmit_request(binding, queue, code, text),
-            link.reason,
-        ),
-    }
+    let binding = match bound_with_room(session, link, queue) {
+        Ok(binding) => binding,
+        Err(refusal) => return refused(session, link, queue, refusal),
+    };
+    answered(
+        session.reject_retransmit_request(binding, queue, code, text),
+        link.reason,
+    )
 }
 
 /// Stops serving before all was sent: 1, 3, then 8, 12.
 pub fn end_retransmission(session: Session, link: Link, queue: Outputs) -> Called
     ensures { Answered end_call result session link queue }
 {
-    match bound(&session, &link, &queue) {
-        Err(refusal) => refused(session, link, queue, refusal),
-        Ok(binding) => answered(session.end_retransmission(binding, queue), link.reason),
-    }
+    let binding = match bound(session, link, queue) {
+        Ok(binding) => binding,
+        Err(refusal) => return refused(session, link, queue, refusal),
+    };
+    answered(session.end_retransmission(binding, queue), link.reason)
 }
 
 /// The session that stands in for one that was not opened.

@@ -55,7 +55,7 @@ fn poll(queue: Outputs) -> Polled
 pub fn poll_output(session: Session, link: Link, queue: Outputs) -> Polled
     ensures { PolledBy (good_record session link queue) result queue }
 {
-    match good(&session, &link, &queue) {
+    match good(session, link, queue) {
         Err(refusal) => Polled {
             queue,
             output: Err(refusal),
@@ -68,7 +68,7 @@ pub fn poll_output(session: Session, link: Link, queue: Outputs) -> Polled
 pub fn transport_closed(session: Session, link: Link, queue: Outputs) -> Closed
     ensures { ClosedBy (good_record session link queue) result queue }
 {
-    match good(&session, &link, &queue) {
+    match good(session, link, queue) {
         Err(refusal) => Closed {
             queue,
             answer: Err(refusal),
@@ -88,7 +88,7 @@ pub fn next_deadline(
 ) -> Result<Option<Instant>, Refusal>
     ensures { result ≡ if_good (good_record session link queue) (deadline_of (world_of session link queue) link.binding) }
 {
-    good(&session, &link, &queue)?;
+    good(session, link, queue)?;
     Ok(
         link.binding
             .and_then(|binding| session.next_deadline(binding)),
@@ -99,7 +99,7 @@ pub fn next_deadline(
 pub fn status(session: Session, link: Link, queue: Outputs) -> Result<SessionStatus, Refusal>
     ensures { result ≡ if_good (good_record session link queue) (link_status link.binding) }
 {
-    good(&session, &link, &queue)?;
+    good(session, link, queue)?;
     Ok(
         link.binding
             .map_or(SessionStatus::Unbound, |binding| binding.status()),
@@ -109,7 +109,7 @@ pub fn status(session: Session, link: Link, queue: Outputs) -> Result<SessionSta
 pub fn id(session: Session, link: Link, queue: Outputs) -> Result<SessionId, Refusal>
     ensures { result ≡ if_good (good_record session link queue) (view session).id }
 {
-    good(&session, &link, &queue)?;
+    good(session, link, queue)?;
     Ok(session.id())
 }
 
@@ -117,7 +117,7 @@ pub fn id(session: Session, link: Link, queue: Outputs) -> Result<SessionId, Ref
 pub fn local_flow(session: Session, link: Link, queue: Outputs) -> Result<FlowType, Refusal>
     ensures { result ≡ if_good (good_record session link queue) (view session).local_flow }
 {
-    good(&session, &link, &queue)?;
+    good(session, link, queue)?;
     Ok(session.local_flow())
 }
 
@@ -125,7 +125,7 @@ pub fn local_flow(session: Session, link: Link, queue: Outputs) -> Result<FlowTy
 pub fn remote_flow(session: Session, link: Link, queue: Outputs) -> Result<FlowType, Refusal>
     ensures { result ≡ if_good (good_record session link queue) (view session).remote_flow }
 {
-    good(&session, &link, &queue)?;
+    good(session, link, queue)?;
     Ok(session.remote_flow())
 }
 
@@ -137,7 +137,7 @@ pub fn next_outbound_seq(
 ) -> Result<Option<SeqNum>, Refusal>
     ensures { result ≡ if_good (good_record session link queue) (next_outbound_seq (view session)) }
 {
-    good(&session, &link, &queue)?;
+    good(session, link, queue)?;
     Ok(session.next_outbound_seq())
 }
 
@@ -149,7 +149,7 @@ pub fn next_inbound_seq(
 ) -> Result<Option<SeqNum>, Refusal>
     ensures { result ≡ if_good (good_record session link queue) (next_inbound_seq (view session)) }
 {
-    good(&session, &link, &queue)?;
+    good(session, link, queue)?;
     Ok(session.next_inbound_seq())
 }
 
@@ -161,7 +161,7 @@ pub fn announced_next_seq(
 ) -> Result<Option<SeqNum>, Refusal>
     ensures { result ≡ if_good (good_record session link queue) (announced_next_seq (view session)) }
 {
-    good(&session, &link, &queue)?;
+    good(session, link, queue)?;
     Ok(session.announced_next_seq())
 }
 
@@ -169,7 +169,7 @@ pub fn announced_next_seq(
 pub fn has_pending_recovery(session: Session, link: Link, queue: Outputs) -> Result<bool, Refusal>
     ensures { result ≡ if_good (good_record session link queue) (has_pending_recovery (view session)) }
 {
-    good(&session, &link, &queue)?;
+    good(session, link, queue)?;
     Ok(session.has_pending_recovery())
 }
 
@@ -177,7 +177,7 @@ pub fn has_pending_recovery(session: Session, link: Link, queue: Outputs) -> Res
 pub fn is_finalized(session: Session, link: Link, queue: Outputs) -> Result<bool, Refusal>
     ensures { result ≡ if_good (good_record session link queue) (view session).finalized }
 {
-    good(&session, &link, &queue)?;
+    good(session, link, queue)?;
     Ok(session.is_finalized())
 }
 
@@ -190,6 +190,6 @@ pub fn regresses(
 ) -> Result<bool, Refusal>
     ensures { result ≡ if_good (good_record session link queue) (Rattle.rules.specs.Queries.regresses next (view session)) }
 {
-    good(&session, &link, &queue)?;
+    good(session, link, queue)?;
     Ok(session.regresses(next))
 }

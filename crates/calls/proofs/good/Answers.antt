@@ -4,7 +4,7 @@ use Rattle.calls.proofs.Laws.{of-good, good-ready}
 use Rattle.calls.proofs.good.Goals as goal
 
 pub returns-clause-is : goal.returns-clause-is
-returns-clause-is c = λ rest. of-good c.args.session.now c.args.link.now c.args.queue.now (is_true c.is_good.ensures c.if-not-is_good.false) _ _
+returns-clause-is c = λ rest. of-good c.args.session c.args.link c.args.queue (is_true c.is_good.ensures c.if-not-is_good.false) _ _
 
 pub returns-clause-ready : goal.returns-clause-ready
-returns-clause-ready c = good-ready c.args.session.now c.args.link.now c.args.queue.now (is_true c.is_good.ensures c.if-not-is_good.false)
+returns-clause-ready c = good-ready c.args.session c.args.link c.args.queue (is_true c.is_good.ensures c.if-not-is_good.false)

@@ -4,4 +4,4 @@ use Rattle.queue.proofs.Laws.{outs-length}
 use Rattle.calls.proofs.room.Goals as goal
 
 pub overflow_add-len : goal.overflow_add-len
-overflow_add-len c = omega (arith, c.len.ensures, outs-length c.args.queue.now, c.requires.count_in)
+overflow_add-len c = omega (arith, c.len.ensures, outs-length c.args.queue, c.requires.count_in)

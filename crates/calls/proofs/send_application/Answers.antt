@@ -5,5 +5,5 @@ use Rattle.calls.proofs.send_application.Goals as goal
 pub returns-in-Err : goal.returns-in-Err
 returns-in-Err c = answer-refused _ _ (c.in-Err.ensures.is _) c.refused.ensures
 
-pub returns-in-Ok : goal.returns-in-Ok
-returns-in-Ok c = answer-local _ _ c.in-Ok.ensures.ready _ _ (c.in-Ok.ensures.is _) c.answered.ensures c.send_application.ensures
+pub returns : goal.returns
+returns c = answer-local _ _ c.in-Ok.ensures.ready _ _ (c.in-Ok.ensures.is _) c.answered.ensures c.send_application.ensures
