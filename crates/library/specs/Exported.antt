@@ -9,7 +9,6 @@ use Rattle.queue.specs.declared.Outputs.{Outputs}
 use Rattle.calls.specs.View.{world_of, good_record, Answered, opened_as}
 use Rattle.calls.specs.View.{Done as Opened}
 use Rattle.calls.specs.declared.Called.{Called}
-use Rattle.library.specs.declared.Held.{Held}
 use Rattle.library.specs.declared.mirror.Bond.{Bond}
 use Rattle.library.specs.declared.mirror.Record.{Record}
 use Rattle.library.specs.declared.mirror.Request.{Request}
@@ -32,10 +31,6 @@ is_clean r = is_listed r.local_flow 4 && is_listed r.remote_flow 4 && is_listed 
 
 abbrev pub is_opening : Opening → Bool
 is_opening o = is_listed o.local_flow 4 && is_listed o.remote_flow 4 && is_listed o.config.policy 4
-
--- session, binding and queue of a record
-abbrev pub held_in : Record → Held
-held_in r = record { session = session_in r; link = link_in r; queue = queue_in r.queue }
 
 abbrev pub is_good : Record → Bool
 is_good r = good_record (session_in r) (link_in r) (queue_in r.queue)

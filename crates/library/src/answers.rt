@@ -3,6 +3,7 @@ ghost use Rattle.std.specs.Prelude.{◌≡◌};
 ghost use Rattle.rules.specs.Answers.{refusal_values};
 ghost use Rattle.library.specs.Answers.{first_of, second_of, numbered_reply, refusal_out, answer_out};
 
+use crate::codes::{operation_out, status_out};
 use crate::mirror::{Number, Reply};
 use trace::text::refusal_number;
 use types::answers::{Delivery, Refusal, Verdict};
@@ -26,7 +27,10 @@ fn carried(refusal: Refusal) -> (u64, u64)
     ensures second { result.1 ≡ second_of (refusal_values refusal) }
 {
     match refusal {
-        Refusal::InvalidState { operation, status } => (operation as u64, status as u64),
+        Refusal::InvalidState { operation, status } => (
+            operation_out(operation),
+            status_out(status),
+        ),
         Refusal::RetransmissionOverrun { count, remaining } => {
             (u64::from(count), u64::from(remaining))
         }

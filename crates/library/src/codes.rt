@@ -1,7 +1,9 @@
 //! The numbers that stand for enums: 01's where it has them. A number outside its list reads as the list's last, and `is_clean` refuses it before.
 ghost use Rattle.std.specs.Prelude.{◌≡◌};
+ghost use Rattle.rules.specs.Answers.{operation_number, status_number};
 ghost use Rattle.library.specs.Numbers.{is_listed, flow_in, policy_in, termination_in, rejection_in, by_in, name_in, is_name_number};
 
+use types::answers::{Operation, SessionStatus};
 use types::config::RetransmitStallPolicy;
 use types::ids::{FlowType, RetransmitRejectCode, TerminationCode};
 use types::messages::MessageName;
@@ -57,4 +59,17 @@ pub fn is_name(kind: u8) -> bool
     ensures { result ≡ is_name_number kind }
 {
     matches!(kind, 4 | 32..=44)
+}
+
+/// A local call by the kind of its trace record.
+pub fn operation_out(operation: Operation) -> u64
+    ensures { result ≡ operation_number operation }
+{
+    operation as u64
+}
+
+pub fn status_out(status: SessionStatus) -> u64
+    ensures { result ≡ status_number status }
+{
+    status as u64
 }

@@ -1,23 +1,21 @@
 //! The calls for C and Rust: records as plain numbers, by value in and out.
 #![tactic(auto)]
 
-ghost use Rattle.std.specs.Prelude.{◌≡◌, ◌&&◌, true, false, MatchOption, MatchResult};
-ghost use Rattle.calls.specs.View.{Answered, good_record};
-ghost use Rattle.library.specs.Exported.{is_clean, is_good, held_in, is_opening, refused_out, CallIs, OpenOut, deadline_reply, ClosedIs};
-ghost use Rattle.library.specs.Records.{session_in, link_in, record_out, done_out, call_of};
+ghost use Rattle.std.specs.Prelude.{◌≡◌};
+ghost use Rattle.library.specs.Exported.{is_clean, is_opening, refused_out, CallIs, OpenOut, deadline_reply, ClosedIs};
+ghost use Rattle.library.specs.Records.{session_in, link_in, record_out, done_out};
 
 use crate::answers::numbered;
 use crate::codes::{flow_in, listed};
+use crate::lists::gaps_in;
 use crate::mirror::{Done, Number, Opening, Record, Reply, Request};
 use crate::outputs::all_said;
 use calls::Called;
 use queue::Outputs;
-use rings::gaps::Gaps;
 use session::Session;
 use trace::records::Entry;
 use types::answers::Refusal;
 use types::binding::Link;
-use types::codes::Unlisted;
 use types::ids::{Instant, Nanotime, SeqNum};
 
 pub mod answers;
@@ -27,14 +25,6 @@ pub mod mirror;
 pub mod outputs;
 pub mod parts;
 pub mod requests;
-
-/// What a record stands for.
-#[derive(Clone, Copy)]
-struct Held {
-    session: Session,
-    link: Link,
-    queue: Outputs,
-}
 
 impl From<Record> for Session {
     ghost from_gives = { λ r s. s ≡ session_in r };
@@ -48,10 +38,7 @@ impl From<Record> for Session {
             outbound_next: SeqNum(plain.outbound_next),
             inbound_next: plain.inbound_next.into(),
             start_pending: plain.start_pending,
-            gaps: Gaps {
-                missing: plain.missing.into(),
-                overflow_received: plain.overflow.into(),
-            },
+            gaps: gaps_in(plain.missing, plain.overflow),
             outstanding: plain.asked.into(),
             replay: plain.batch.into(),
             awaiting_resume: plain.awaiting_resume,
@@ -73,31 +60,28 @@ impl From<Record> for Link {
     }
 }
 
-impl From<Held> for Record {
-    ghost from_gives = { λ h r. r ≡ record_out h.session h.link h.queue };
-
-    fn from(held: Held) -> Record {
-        let s = held.session;
-        Record {
-            id: s.id.into(),
-            local_flow: u8::from(s.local_flow),
-            remote_flow: u8::from(s.remote_flow),
-            start_pending: s.start_pending,
-            awaiting_resume: s.awaiting_resume,
-            finalized: s.finalized,
-            config: s.config.into(),
-            outbound_next: s.outbound_next.0,
-            inbound_next: s.inbound_next.into(),
-            missing: s.gaps.missing.into(),
-            overflow: s.gaps.overflow_received.into(),
-            asked: s.outstanding.into(),
-            batch: s.replay.into(),
-            served: s.provider.into(),
-            finished: s.peer_finished.into(),
-            bond: held.link.binding.into(),
-            reason: held.link.reason.into(),
-            queue: held.queue.into(),
-        }
+fn record_out(s: Session, link: Link, queue: Outputs) -> Record
+    ensures { result ≡ record_out s link queue }
+{
+    Record {
+        id: s.id.into(),
+        local_flow: u8::from(s.local_flow),
+        remote_flow: u8::from(s.remote_flow),
+        start_pending: s.start_pending,
+        awaiting_resume: s.awaiting_resume,
+        finalized: s.finalized,
+        config: s.config.into(),
+        outbound_next: s.outbound_next.0,
+        inbound_next: s.inbound_next.into(),
+        missing: s.gaps.missing.into(),
+        overflow: s.gaps.overflow_received.into(),
+        asked: s.outstanding.into(),
+        batch: s.replay.into(),
+        served: s.provider.into(),
+        finished: s.peer_finished.into(),
+        bond: link.binding.into(),
+        reason: link.reason.into(),
+        queue: queue.into(),
     }
 }
 
@@ -105,13 +89,8 @@ impl From<Called> for Done {
     ghost from_gives = { λ c d. d ≡ done_out c };
 
     fn from(called: Called) -> Done {
-        let held = Held {
-            session: called.session,
-            link: called.link,
-            queue: called.queue,
-        };
         Done {
-            record: held.into(),
+            record: record_out(called.session, called.link, called.queue),
             reply: called.answer.into(),
         }
     }
@@ -138,73 +117,33 @@ fn is_clean(r: Record) -> bool
         && all_said(r.queue)
 }
 
-impl TryFrom<Record> for Held {
-    type Error = Unlisted;
-
-    /// A number outside its list is an error.
-    fn try_from(plain: Record) -> Result<Held, Unlisted>
-        ensures { MatchResult result (λ h. (h ≡ held_in plain) × (is_clean plain ≡ true)) (λ _. is_clean plain ≡ false) }
-    {
-        if !is_clean(plain) {
-            return Err(Unlisted);
-        }
-        Ok(Held {
-            session: plain.into(),
-            link: plain.into(),
-            queue: plain.queue.into(),
-        })
+/// A call on a record. A number outside its list is refused: 1 in a record, then 5 in a request.
+pub fn fixp_call(record: Record, request: Request) -> Done
+    ensures { CallIs «record» request result }
+{
+    if !is_clean(record) {
+        return refused(record, Refusal::BadRecord);
     }
-}
-
-impl Held {
-    /// Of a clean record with each position, count and length within its room.
-    fn good(plain: Record) -> Option<Held>
-        ensures { MatchOption result ((is_clean plain && is_good plain) ≡ false) (λ h. (h ≡ held_in plain) × ((is_clean plain && is_good plain) ≡ true)) }
-    {
-        let held = Held::try_from(plain).ok()?;
-        held.is_good().then_some(held)
-    }
-
-    fn is_good(self) -> bool
-        ensures { result ≡ good_record self.session self.link self.queue }
-    {
-        calls::is_good(self.session, self.link, self.queue)
-    }
-
-    /// The call of an entry, with what the request says beside it.
-    fn run(mut self, entry: Entry, request: Request) -> Called
-        ensures { Answered (call_of entry request) result self.session self.link self.queue }
-    {
+    let session = Session::from(record);
+    let link = Link::from(record);
+    let mut queue = Outputs::from(record.queue);
+    let entry = Entry::from(request);
+    if dispatch::is_call(entry) {
         let handed = dispatch::run(
-            &mut self.queue,
-            self.session,
-            self.link,
+            &mut queue,
+            session,
+            link,
             entry,
             Instant(request.now),
             Nanotime(request.stamp),
             request.reason.into(),
         );
-        Called {
-            session: handed.session,
-            link: handed.link,
-            queue: self.queue,
-            answer: handed.answer,
-        }
+        return Done {
+            record: record_out(handed.session, handed.link, queue),
+            reply: handed.answer.into(),
+        };
     }
-}
-
-/// A call on a record. A number outside its list is refused: 1 in a record, then 5 in a request.
-pub fn fixp_call(record: Record, request: Request) -> Done
-    ensures { CallIs «record» request result }
-{
-    let Ok(held) = Held::try_from(record) else {
-        return refused(record, Refusal::BadRecord);
-    };
-    let entry = Entry::from(request);
-    if dispatch::is_call(entry) {
-        return held.run(entry, request).into();
-    }
-    if !held.is_good() {
+    if !calls::is_good(session, link, queue) {
         return refused(record, Refusal::BadRecord);
     }
     refused(record, Refusal::BadMessage)
@@ -238,26 +177,35 @@ fn is_open(o: Opening) -> bool
 pub fn fixp_next_deadline(record: Record) -> Reply
     ensures { result ≡ deadline_reply «record» }
 {
-    let Some(held) = Held::good(record) else {
+    if !is_clean(record) {
         return Refusal::BadRecord.into();
+    }
+    let session = Session::from(record);
+    let link = Link::from(record);
+    if !calls::is_good(session, link, record.queue.into()) {
+        return Refusal::BadRecord.into();
+    }
+    let Some(binding) = link.binding else {
+        return numbered(1, Number::default());
     };
-    let deadline = held
-        .link
-        .binding
-        .and_then(|binding| held.session.next_deadline(binding));
-    numbered(1, deadline.into())
+    numbered(1, session.next_deadline(binding).into())
 }
 
 /// The host reports the transport closed: 1.
 pub fn fixp_transport_closed(record: Record) -> Done
     ensures { ClosedIs «record» result }
 {
-    let Some(mut held) = Held::good(record) else {
+    if !is_clean(record) {
         return refused(record, Refusal::BadRecord);
-    };
-    held.queue = held.queue.transport_closed();
+    }
+    let session = Session::from(record);
+    let link = Link::from(record);
+    let queue = Outputs::from(record.queue);
+    if !calls::is_good(session, link, queue) {
+        return refused(record, Refusal::BadRecord);
+    }
     Done {
-        record: held.into(),
+        record: record_out(session, link, queue.transport_closed()),
         reply: numbered(1, Number::default()),
     }
 }

@@ -4,7 +4,7 @@ ghost use Rattle.library.specs.Outputs.{bare_out, coded_out, counted_out, messag
 
 use crate::codes::{by_in, is_name, listed, name_in, rejection_in, termination_in};
 use crate::mirror::{Id, Number, Out, Queue};
-use queue::Outputs;
+use queue::{MAX_OUTPUTS, Outputs};
 use types::ids::{Nanotime, SeqNum};
 use types::messages::{
     FinishedReceiving, NotApplied, Retransmission, RetransmitReject, RetransmitRequest, Sequence,
@@ -259,12 +259,14 @@ impl From<Queue> for Outputs {
     ghost from_gives = { λ q outputs. outputs ≡ queue_in q };
 
     fn from(q: Queue) -> Outputs {
-        Outputs {
-            slots: q.slots.map(Output::from),
-            head: q.head,
-            count: q.count,
-            closing: q.closing,
+        let mut outputs = Outputs::new();
+        for i in 0..MAX_OUTPUTS {
+            outputs.slots[i] = Output::from(q.slots[i]);
         }
+        outputs.head = q.head;
+        outputs.count = q.count;
+        outputs.closing = q.closing;
+        outputs
     }
 }
 
@@ -272,12 +274,19 @@ impl From<Outputs> for Queue {
     ghost from_gives = { λ outputs q. q ≡ queue_out outputs };
 
     fn from(outputs: Outputs) -> Queue {
-        Queue {
-            slots: outputs.slots.map(Out::from),
-            head: outputs.head,
-            count: outputs.count,
-            closing: outputs.closing,
+        let mut q = Queue {
+            slots: [bare(1); MAX_OUTPUTS],
+            head: 0,
+            count: 0,
+            closing: false,
+        };
+        for i in 0..MAX_OUTPUTS {
+            q.slots[i] = Out::from(outputs.slots[i]);
         }
+        q.head = outputs.head;
+        q.count = outputs.count;
+        q.closing = outputs.closing;
+        q
     }
 }
 

@@ -1,9 +1,19 @@
--- Place by place.
-use Rattle.std.proofs.Common.{rules}
+-- Each turn puts the image of one place at its place; after the last the array is the list of images.
+use Rattle.std.proofs.Common.{rules, ◌≤◌, ◌≡◌, refl, arith}
 use Rattle.rings.proofs.Laws.{long_of}
 use Rattle.library.specs.Parts.{gap_in}
-use Rattle.library.proofs.Copying.{mapped}
+use Rattle.library.proofs.Copying.{copied, placed, filled}
 use Rattle.library.proofs.lists.RingMAX_RUNSFromOverflow.from.Goals as goal
 
+pub loop-i-init : goal.loop-i-init
+unfolding copied
+loop-i-init c = record { few = search rules; long = search (rules, long_of); room = search (rules, long_of); is = refl }
+
+pub loop-i-preserved : goal.loop-i-preserved
+loop-i-preserved c = placed gap_in c.args.m.slots _ c.loop-i.ring.slots c.loop-i.i 256 _ _ c.loop-i.invariant c.loop-i-test.true c.from.ensures
+
 pub returns : goal.returns
-returns c = rw (mapped gap_in c.map.ensures.items (search (rules, long_of)) (λ p q x y h. search rules))
+returns c =
+    let h : 256 ≤ c.loop-i.i = omega (arith, c.loop-i-test.false) in
+    let e : c.loop-i.ring.slots ≡ _ = filled gap_in c.args.m.slots _ c.loop-i.ring.slots c.loop-i.i 256 c.loop-i.invariant h in
+    λ j. record { slots = e j; head = c.args.m.head; count = c.args.m.count }
